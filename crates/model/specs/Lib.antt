@@ -1,0 +1,15 @@
+pub mod Bytes
+pub mod Optional
+pub mod Checked
+pub mod Number
+pub mod Table
+pub mod Resp
+pub mod Command
+pub mod Execute
+pub mod Call
+pub mod CurrentValue
+pub mod BenchSheet
+pub mod History
+pub mod Serializable
+pub mod WrongStores
+pub mod MoreRows
