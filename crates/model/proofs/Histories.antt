@@ -1,0 +1,225 @@
+-- Demand 3's premises are met by a worked history, so the claim is not empty; and two wrong stores do not meet the claim.
+use Prim.Native.Nat.{ℕ, _+_}
+use Prim.Native.String.{String}
+use mathlib.Core.Path.{_≡_, refl, ap}
+use mathlib.Core.List.{List, [], _∷_, map}
+use native.Mathlib.Omega.{arith}
+use lib.ListN.{getD, replicate}
+use Rattle.model.specs.Bytes.{text}
+use Rattle.model.specs.Table.{form128, used, versionAt, tableBytes, recordBytes, recordAt}
+use Rattle.model.specs.Resp.{encode}
+use Rattle.model.specs.Call.{Store, call}
+use Rattle.model.specs.History.{Label, outside, reads, writes, Event, run, final, committed}
+use Rattle.model.specs.Serializable.{Holds, Lawful, Serial, Serializable}
+use Rattle.model.specs.WrongStores.{writesNothing, obeysFirstSwap}
+use Rattle.model.proofs.Compute.{computing}
+use Rattle.model.proofs.Serial.{serializable128}
+
+-- two records in use: foo, which expires at 5000, and bar
+abbrev start : List ℕ
+start =
+    tableBytes form128
+    (used (record { key = text "foo"; value = text "100"; flags = 9; version = 1; expiry = 5000 })
+    ∷ used (record { key = text "bar"; value = text "x"; flags = 0; version = 7; expiry = 0 })
+    ∷ [])
+
+-- transaction t writes the digit t before the text
+abbrev update : ℕ → List ℕ → List ℕ
+update t s = (48 + t) ∷ s
+
+abbrev event : Label → ℕ → List String → Event
+event l time ws = record { label = l; time = time; command = encode (map text ws); reply = replicate 128 0 }
+
+-- ---- the worked history
+
+-- transactions 1 and 2 overlap and 2 is stale; a call on another key; one that finds the table full; one that is malformed, after foo's
+-- expiry; and transaction 3, which reads what 1 wrote
+abbrev history : List Event
+history =
+    event (reads 1) 1000 ("EXGET" ∷ "foo" ∷ [])
+    ∷ event (reads 2) 1001 ("exget" ∷ "foo" ∷ "WithFlags" ∷ [])
+    ∷ event outside 1002 ("EXSET" ∷ "bar" ∷ "y" ∷ [])
+    ∷ event (writes 1) 1003 ("EXCAS" ∷ "foo" ∷ "1100" ∷ "1" ∷ "KEEPTTL" ∷ [])
+    ∷ event (writes 2) 1004 ("EXCAS" ∷ "foo" ∷ "2100" ∷ "1" ∷ "KeepTtl" ∷ [])
+    ∷ event outside 1005 ("EXSET" ∷ "baz" ∷ "y" ∷ [])
+    ∷ event outside 9000 []
+    ∷ event (reads 3) 1006 ("EXGET" ∷ "foo" ∷ [])
+    ∷ event (writes 3) 1007 ("EXCAS" ∷ "foo" ∷ "31100" ∷ "2" ∷ "KEEPTTL" ∷ [])
+    ∷ []
+
+bar-is-not-foo : text "bar" ≡ text "foo" → ⊥
+bar-is-not-foo e = let z : _≡_ {A = ℕ} 98 102 = cc in omega arith
+
+pub history-holds : Holds form128 0 (text "foo") update start
+unfolding computing
+history-holds = record { used = refl; key = refl }
+
+pub history-lawful : Lawful form128 0 (text "foo") update [] (run (call form128) start history)
+unfolding computing
+history-lawful = (
+  (λ z. refl),
+  (refl, record { name = text "EXGET"; options = []; decoded = refl; exget = refl }),
+  (
+    (λ z. refl),
+    (refl, record { name = text "exget"; options = text "WithFlags" ∷ []; decoded = refl; exget = refl }),
+    (
+      (λ z. refl),
+      (λ z. record { words = text "EXSET" ∷ text "bar" ∷ text "y" ∷ []; decoded = refl; apart = bar-is-not-foo }),
+      (
+        (λ z. refl),
+        (λ z. record {
+          got = record { text = text "100"; version = 1 };
+          gotten = refl;
+          name = text "EXCAS";
+          version = text "1";
+          option = text "KEEPTTL";
+          decoded = refl;
+          excas = refl;
+          same-version = refl;
+          keepttl = refl;
+        }),
+        (
+          (λ z. refl),
+          (λ z. record {
+            got = record { text = text "100"; version = 1 };
+            gotten = refl;
+            name = text "EXCAS";
+            version = text "1";
+            option = text "KeepTtl";
+            decoded = refl;
+            excas = refl;
+            same-version = refl;
+            keepttl = refl;
+          }),
+          (
+            (λ z. refl),
+            (λ z. let e : _≡_ {A = ℕ} 17 0 = z in absurd (omega arith)),
+            (
+              (λ z. let e : _≡_ {A = ℕ} 4 0 = z in absurd (omega arith)),
+              (λ z. let e : _≡_ {A = ℕ} 4 0 = z in absurd (omega arith)),
+              (
+                (λ z. refl),
+                (refl, record { name = text "EXGET"; options = []; decoded = refl; exget = refl }),
+                (
+                  (λ z. refl),
+                  (λ z. record {
+                    got = record { text = text "1100"; version = 2 };
+                    gotten = refl;
+                    name = text "EXCAS";
+                    version = text "2";
+                    option = text "KEEPTTL";
+                    decoded = refl;
+                    excas = refl;
+                    same-version = refl;
+                    keepttl = refl;
+                  }),
+                  tt,
+                ),
+              ),
+            ),
+          ),
+        ),
+      ),
+    ),
+  ),
+)
+
+-- the claim at this history
+pub history-serial : Serial form128 0 update start (run (call form128) start history)
+history-serial = serializable128 0 (text "foo") update start history history-holds history-lawful
+
+pub history-committed : committed (run (call form128) start history) ≡ 1 ∷ 3 ∷ []
+unfolding computing
+history-committed = refl
+
+pub history-record : recordAt form128 0 (final start (run (call form128) start history))
+    ≡ recordBytes form128 (record { key = text "foo"; value = text "31100"; flags = 9; version = 3; expiry = 5000 })
+unfolding computing
+history-record = refl
+
+-- ---- wrong stores
+
+-- transactions 1 and 2, one after the other
+abbrev twice : List Event
+twice =
+    event (reads 1) 1000 ("EXGET" ∷ "foo" ∷ [])
+    ∷ event (writes 1) 1001 ("EXCAS" ∷ "foo" ∷ "1100" ∷ "1" ∷ "KEEPTTL" ∷ [])
+    ∷ event (reads 2) 1002 ("EXGET" ∷ "foo" ∷ [])
+    ∷ event (writes 2) 1003 ("EXCAS" ∷ "foo" ∷ "21100" ∷ "2" ∷ "KEEPTTL" ∷ [])
+    ∷ []
+
+abbrev once : List Event
+once =
+    event (reads 1) 1000 ("EXGET" ∷ "foo" ∷ [])
+    ∷ event (writes 1) 1001 ("EXCAS" ∷ "foo" ∷ "1100" ∷ "1" ∷ "KEEPTTL" ∷ [])
+    ∷ []
+
+-- the record keeps version 1, and the serial execution has 2
+pub writesNothing-not-serializable : Serializable form128 writesNothing → ⊥
+unfolding computing
+writesNothing-not-serializable h =
+    let s = h 0 (text "foo") update start once (record { used = refl; key = refl }) (
+      (λ z. refl),
+      (refl, record { name = text "EXGET"; options = []; decoded = refl; exget = refl }),
+      (
+        (λ z. refl),
+        (λ z. record {
+          got = record { text = text "100"; version = 1 };
+          gotten = refl;
+          name = text "EXCAS";
+          version = text "1";
+          option = text "KEEPTTL";
+          decoded = refl;
+          excas = refl;
+          same-version = refl;
+          keepttl = refl;
+        }),
+        tt,
+      ),
+    ) in
+    let e : _≡_ {A = ℕ} 1 2 = ap (λ (b : List ℕ). getD b versionAt 0) (s .bytes) in
+    omega arith
+
+-- the second EXCAS is answered OK and not obeyed: the record has version 2, and the serial execution 3
+pub obeysFirstSwap-not-serializable : Serializable form128 obeysFirstSwap → ⊥
+unfolding computing
+obeysFirstSwap-not-serializable h =
+    let s = h 0 (text "foo") update start twice (record { used = refl; key = refl }) (
+      (λ z. refl),
+      (refl, record { name = text "EXGET"; options = []; decoded = refl; exget = refl }),
+      (
+        (λ z. refl),
+        (λ z. record {
+          got = record { text = text "100"; version = 1 };
+          gotten = refl;
+          name = text "EXCAS";
+          version = text "1";
+          option = text "KEEPTTL";
+          decoded = refl;
+          excas = refl;
+          same-version = refl;
+          keepttl = refl;
+        }),
+        (
+          (λ z. refl),
+          (refl, record { name = text "EXGET"; options = []; decoded = refl; exget = refl }),
+          (
+            (λ z. refl),
+            (λ z. record {
+              got = record { text = text "1100"; version = 2 };
+              gotten = refl;
+              name = text "EXCAS";
+              version = text "2";
+              option = text "KEEPTTL";
+              decoded = refl;
+              excas = refl;
+              same-version = refl;
+              keepttl = refl;
+            }),
+            tt,
+          ),
+        ),
+      ),
+    ) in
+    let e : _≡_ {A = ℕ} 2 3 = ap (λ (b : List ℕ). getD b versionAt 0) (s .bytes) in
+    omega arith

@@ -1,0 +1,17 @@
+pub mod Basics
+pub mod Steps
+pub mod Rules
+pub mod Numbers
+pub mod Words
+pub mod Records
+pub mod Tables
+pub mod Search
+pub mod Compute
+pub mod Bench
+pub mod Commands
+pub mod Replies
+pub mod Effects
+pub mod Calls
+pub mod Shown
+pub mod Serial
+pub mod Histories
