@@ -71,8 +71,8 @@ module _ (f : Form) (t : List ℕ) (now : ℕ) (c b : List ℕ) (P : Outcome →
   call-cases w refused answered stored =
       by-call λ ss g ws e.
       effect ss g ws e (parse f now ws >>= execute f now ss)
-      (by-step Late (Fine f w now ss (tableBytes-readTable f t ss (g .read) .kept) (g .keys) (wordAt 1 ws)) (Known (wordAt 1 ws)) (parse f now ws) (execute f now ss)
-      (weaken Parsing Late (Known (wordAt 1 ws)) (parse f now ws) (λ n h. omega arith) (parse-known f now ws))
+      (by-step Late (Fine f w now ss (tableBytes-readTable f t ss (g .read) .kept) (g .keys) (wordAt 1 ws)) (Known f (wordAt 1 ws)) (parse f now ws) (execute f now ss)
+      (weaken Parsing Late (Known f (wordAt 1 ws)) (parse f now ws) (λ n h. omega arith) (parse-known f now ws))
       λ cm k. weaken Executing Late (Fine f w now ss (tableBytes-readTable f t ss (g .read) .kept) (g .keys) (wordAt 1 ws)) (execute f now ss cm) (λ n h. omega arith)
       (execute-fine f w now ss (tableBytes-readTable f t ss (g .read) .kept) (g .keys) (wordAt 1 ws) cm k))
     where

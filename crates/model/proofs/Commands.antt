@@ -20,7 +20,7 @@ use Rattle.model.specs.Command.{Presence, Change, raise, set, Expire, cl
 use Rattle.model.specs.Command.{Opt, time, presence, version, plain, Kind, timeWord, nxOrXx, verOrAbs, flagsWord, minWord, maxWord, withFlags, Name, EXSET, EXGET, EXSETVER, EXINCRBY, EXCAS, EXCAD, EXAPPEND, EXPREPEND, EXGAE, DEL}
 use Rattle.model.specs.Command.{look, names, Rule, ruleOf, wordAt, countOk, sizeTests, Given, pick, has, readOptions, enough, numbersOk, versionOf, flagsOf, signedOf, expireBy, expireOf, expireOk, timeOk, boundOf, ordered, changeBy, changeOf, flagsGiven, expirySet, build, parseNamed, parse}
 use Rattle.model.specs.Execute.{keyOf}
-use Rattle.model.proofs.Basics.{every, and-right}
+use Rattle.model.proofs.Basics.{every, imply, and-right}
 use Rattle.model.proofs.Steps.{Comes, by-check, by-given}
 
 -- ---- arguments in range
@@ -45,10 +45,23 @@ ArgumentsOk (exjoin e k v p c) = ChangeOk c
 ArgumentsOk (exgae k x) = x ≤ timeLimit
 ArgumentsOk (del k) = Unit {0}
 
-pub record Known (k : List ℕ) (c : Command) : Type 0 where
+-- a given value fits
+abbrev pub ValueOk : Form → Command → Type 0
+ValueOk f (exset k v p c e g w) = length v ≤ f .valueLimit
+ValueOk f (exget k w) = Unit {0}
+ValueOk f (exsetver k n) = Unit {0}
+ValueOk f (exincrby k z p c e min max nn w) = Unit {0}
+ValueOk f (excas k v n e) = length v ≤ f .valueLimit
+ValueOk f (excad k n) = Unit {0}
+ValueOk f (exjoin e k v p c) = length v ≤ f .valueLimit
+ValueOk f (exgae k x) = Unit {0}
+ValueOk f (del k) = Unit {0}
+
+pub record Known (f : Form) (k : List ℕ) (c : Command) : Type 0 where
   pub key : keyOf c ≡ k
   pub key-from : 1 ≤ length k
   pub key-to : length k ≤ keyLimit
+  pub value : ValueOk f c
   pub arguments : ArgumentsOk c
 
 -- the numbers of the refusals in parsing
@@ -125,12 +138,24 @@ module _ (now : ℕ) (ws : List (List ℕ)) (gs : List Given) (ht : timeOk now (
   built-key EXGAE = refl
   built-key DEL = refl
 
+  built-value : (f : Form) (n : Name) → (ruleOf n .valued ≡ true → length (wordAt 2 ws) ≤ f .valueLimit) → ValueOk f (build now ws gs n)
+  built-value f EXSET h = h refl
+  built-value f EXGET h = tt
+  built-value f EXSETVER h = tt
+  built-value f EXINCRBY h = tt
+  built-value f EXCAS h = h refl
+  built-value f EXCAD h = tt
+  built-value f EXAPPEND h = h refl
+  built-value f EXPREPEND h = h refl
+  built-value f EXGAE h = tt
+  built-value f DEL h = tt
+
 -- ---- every command that parses
 
 module _ (f : Form) (now : ℕ) (ws : List (List ℕ)) where
   -- what holds of every command that the tests let through
   pub parse-named : (P : Command → Type 0) (n : Name)
-      → (1 ≤ length (wordAt 1 ws) → length (wordAt 1 ws) ≤ keyLimit → (gs : List Given) → timeOk now (pick timeWord gs) ≡ true → P (build now ws gs n))
+      → (1 ≤ length (wordAt 1 ws) → length (wordAt 1 ws) ≤ keyLimit → (ruleOf n .valued ≡ true → length (wordAt 2 ws) ≤ f .valueLimit) → (gs : List Given) → timeOk now (pick timeWord gs) ≡ true → P (build now ws gs n))
       → Comes Parsing P (parseNamed f now ws n (ruleOf n))
   parse-named P n h =
       by-check Parsing P 6 (countOk (ruleOf n) (length ws)) _ (omega arith) λ h6.
@@ -141,14 +166,22 @@ module _ (f : Form) (now : ℕ) (ws : List (List ℕ)) where
       by-check Parsing P 10 (timeOk now (pick timeWord gs)) _ (omega arith) λ h10.
       by-check Parsing P 11 (ordered (boundOf (pick minWord gs)) (boundOf (pick maxWord gs))) _ (omega arith) λ h11.
       let sizes = every (sizeTests f (ruleOf n) (wordAt 1 ws) (wordAt 2 ws)) h7 in
-      h (leb-true 1 (length (wordAt 1 ws)) (sizes .0)) (leb-true (length (wordAt 1 ws)) keyLimit (sizes .1 .0)) gs h10
+      h (leb-true 1 (length (wordAt 1 ws)) (sizes .0)) (leb-true (length (wordAt 1 ws)) keyLimit (sizes .1 .0))
+      (λ v. leb-true (length (wordAt 2 ws)) (f .valueLimit) (imply (ruleOf n .valued) (leb (length (wordAt 2 ws)) (f .valueLimit)) (sizes .1 .1 .0) v))
+      gs h10
 
-  pub parse-known : Comes Parsing (Known (wordAt 1 ws)) (parse f now ws)
+  pub parse-known : Comes Parsing (Known f (wordAt 1 ws)) (parse f now ws)
   unfolding parse
   parse-known =
-      by-given Parsing (Known (wordAt 1 ws)) 5 (look (uppers (wordAt 0 ws)) names) _ (omega arith) λ n h5.
-      parse-named (Known (wordAt 1 ws)) n λ lo hi gs ht.
-      record { key = built-key now ws gs ht n; key-from = lo; key-to = hi; arguments = built-arguments now ws gs ht n }
+      by-given Parsing (Known f (wordAt 1 ws)) 5 (look (uppers (wordAt 0 ws)) names) _ (omega arith) λ n h5.
+      parse-named (Known f (wordAt 1 ws)) n λ lo hi hv gs ht.
+      record {
+        key = built-key now ws gs ht n;
+        key-from = lo;
+        key-to = hi;
+        value = built-value now ws gs ht f n hv;
+        arguments = built-arguments now ws gs ht n;
+      }
 
 -- ---- EXGET, and the EXCAS of a transaction
 
@@ -157,7 +190,7 @@ IsGet k c = (b : Bool) × (c ≡ exget k b)
 
 pub parse-get : (f : Form) (now : ℕ) (ws : List (List ℕ)) → uppers (wordAt 0 ws) ≡ text "EXGET" → Comes Parsing (IsGet (wordAt 1 ws)) (parse f now ws)
 unfolding parse
-parse-get f now ws e = rw e (parse-named f now ws (IsGet (wordAt 1 ws)) EXGET λ lo hi gs ht. (has withFlags gs, refl))
+parse-get f now ws e = rw e (parse-named f now ws (IsGet (wordAt 1 ws)) EXGET λ lo hi hv gs ht. (has withFlags gs, refl))
 
 module _ (f : Form) (now : ℕ) (name k v version option : List ℕ) (n : ℕ) (en : uppers name ≡ text "EXCAS") (ev : readVersion version ≡ some n)
     (eo : uppers option ≡ text "KEEPTTL") where

@@ -212,7 +212,7 @@ module _ (f : Form) (w : Roomy f) (now : ℕ) (ss : List Slot) (hk : All (Kept f
         )
     fine-on o h (del key) q a = on-live o h (one (number 0)) _ (number-fits f w 0 (omega arith)) λ o e h. (emptied o h, number-fits f w 1 (omega arith))
 
-  pub execute-fine : (k : List ℕ) (c : Command) → Known k c → Comes Executing (Fine k) (execute f now ss c)
+  pub execute-fine : (k : List ℕ) (c : Command) → Known f k c → Comes Executing (Fine k) (execute f now ss c)
   unfolding execute
   execute-fine k c h = fine-on k (h .key-from) (h .key-to) (findLive now (keyOf c) ss) (hits (findLive now (keyOf c) ss) refl) c (h .key) (h .arguments)
     where

@@ -1,6 +1,6 @@
 pub mod Basics
 pub mod Steps
-pub mod Rules
+pub mod Behaviour
 pub mod Numbers
 pub mod Words
 pub mod Records

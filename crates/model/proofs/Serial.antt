@@ -447,7 +447,7 @@ module _ (f : Form) (w : Roomy f) (i : ℕ) (k : List ℕ) (update : ℕ → Lis
       swap-any u cm hc (ok (store j s r)) e h =
           λ lv fits law. subst (λ (y : Checked Effect). Shown (writes u) (effectOn f t b ss y)) e (swap-step u cm hc (lv refl) (fits refl)) lv fits law
 
-      on-parsed : (l : Label) (p : Checked Command) → parse f now ws ≡ p → Comes Parsing (Known (wordAt 1 ws)) p → Shown l (effectOn f t b ss (p >>= execute f now ss))
+      on-parsed : (l : Label) (p : Checked Command) → parse f now ws ≡ p → Comes Parsing (Known f (wordAt 1 ws)) p → Shown l (effectOn f t b ss (p >>= execute f now ss))
       on-parsed l (refuse n) hc known = refusal l n (omega (arith, known .least))
       on-parsed outside (ok cm) hc known =
           outside-effect (execute f now ss cm)

@@ -87,7 +87,7 @@ value-word : (f : Form) (now : ℕ) (ws : List (List ℕ)) → Comes Parsing (Va
 unfolding parse
 value-word f now ws =
     by-given Parsing (ValueWord ws) 5 (look (uppers (wordAt 0 ws)) names) _ (omega arith) λ n h5.
-    parse-named f now ws (ValueWord ws) n λ lo hi gs ht. built gs n
+    parse-named f now ws (ValueWord ws) n λ lo hi hv gs ht. built gs n
   where
     built : (gs : List Given) (n : Name) → ValueWord ws (build now ws gs n)
     built gs EXSET = tt
@@ -132,7 +132,7 @@ module _ (f : Form) (w : Roomy f) (t : List ℕ) (now : ℕ) (c b : List ℕ) (r
     was : WasTable f t ss
     was = tableBytes-readTable f t ss (g .read)
 
-    module _ (cm : Command) (hc : parse f now ws ≡ ok cm) (known : Known (wordAt 1 ws) cm) (o : Found) (ho : findLive now (keyOf cm) ss ≡ some o) where
+    module _ (cm : Command) (hc : parse f now ws ≡ ok cm) (known : Known f (wordAt 1 ws) cm) (o : Found) (ho : findLive now (keyOf cm) ss ≡ some o) where
       hit : Hit (wordAt 1 ws) ss o
       hit = subst (λ (k : List ℕ). Hit k ss o) (known .key) (live-hit now (keyOf cm) ss o ho)
 
@@ -219,7 +219,7 @@ module _ (f : Form) (w : Roomy f) (t : List ℕ) (now : ℕ) (c b : List ℕ) (r
     none-shown : (s : Shown) → isShown s ≡ false → Claim s
     none-shown s e h = never (isShown s) h e
 
-    swap-shown : (k v : List ℕ) (n : ℕ) (x : Expire) → parse f now ws ≡ ok (excas k v n x) → Known (wordAt 1 ws) (excas k v n x) → v ≡ wordAt 2 ws
+    swap-shown : (k v : List ℕ) (n : ℕ) (x : Expire) → parse f now ws ≡ ok (excas k v n x) → Known f (wordAt 1 ws) (excas k v n x) → v ≡ wordAt 2 ws
         → (e : Effect) → execute f now ss (excas k v n x) ≡ ok e → (o : Found) → findLive now k ss ≡ some o → (b : Bool) → eqb n (o .rec .version) ≡ b
         → Claim (cond b (inCommand (wordStart 2 ws) (length v)) (valueOf f o))
     unfolding execute
@@ -238,7 +238,7 @@ module _ (f : Form) (w : Roomy f) (t : List ℕ) (now : ℕ) (c b : List ℕ) (r
         (ap (λ (o : Option Found). executeOn f now ss o (excas k v n x)) ho
         ∙ ap (λ (b : Bool). cond b (write f now ss k (some o) (swapping v x)) (ok (answer (staleReply (o .rec))))) q)
 
-    shown-live : (cm : Command) → parse f now ws ≡ ok cm → Known (wordAt 1 ws) cm → ValueWord ws cm → (e : Effect) → execute f now ss cm ≡ ok e
+    shown-live : (cm : Command) → parse f now ws ≡ ok cm → Known f (wordAt 1 ws) cm → ValueWord ws cm → (e : Effect) → execute f now ss cm ≡ ok e
         → (o : Found) → findLive now (keyOf cm) ss ≡ some o → Claim (shownAfter f ws o cm)
     unfolding execute
     shown-live (exget k b) hc known vw e he o ho =
@@ -252,13 +252,13 @@ module _ (f : Form) (w : Roomy f) (t : List ℕ) (now : ℕ) (c b : List ℕ) (r
     shown-live (exgae k x) hc known vw e he o ho = none-shown nothing refl
     shown-live (del k) hc known vw e he o ho = none-shown nothing refl
 
-    shown-on : (cm : Command) → parse f now ws ≡ ok cm → Known (wordAt 1 ws) cm → ValueWord ws cm → (e : Effect) → execute f now ss cm ≡ ok e
+    shown-on : (cm : Command) → parse f now ws ≡ ok cm → Known f (wordAt 1 ws) cm → ValueWord ws cm → (e : Effect) → execute f now ss cm ≡ ok e
         → (o : Option Found) → findLive now (keyOf cm) ss ≡ o → Claim (shownOn f ws o cm)
     shown-on cm hc known vw e he none ho = none-shown nothing refl
     shown-on cm hc known vw e he (some o) ho = shown-live cm hc known vw e he o ho
 
     -- the rest of the tests, by what the parse and the execution came to
-    shown-after : (p : Checked Command) → parse f now ws ≡ p → Comes Parsing (Known (wordAt 1 ws)) p → Comes Parsing (ValueWord ws) p
+    shown-after : (p : Checked Command) → parse f now ws ≡ p → Comes Parsing (Known f (wordAt 1 ws)) p → Comes Parsing (ValueWord ws) p
         → Comes Any Claim (p >>= λ cm. execute f now ss cm >> ok (shownOn f ws (findLive now (keyOf cm) ss) cm))
     shown-after (refuse n) hc known vw = tt
     shown-after (ok cm) hc known vw = go (execute f now ss cm) refl

@@ -244,13 +244,19 @@ isNumber (some signed) w = isSome (readSigned w)
 isNumber (some natural) w = isSome (readVersion w)
 isNumber (some flags) w = isSome (readFlags w)
 
-abbrev pub optionNumbersOk : List Given → Bool
-optionNumbersOk [] = true
-optionNumbersOk (g ∷ gs) = isNumber (optRuleOf (g .opt) .number) (g .word) && optionNumbersOk gs
+-- the number word of an option, if it is given
+abbrev pub numberOk : Option Given → Bool
+numberOk none = true
+numberOk (some g) = isNumber (optRuleOf (g .opt) .number) (g .word)
+
+-- the options that a number follows
+abbrev pub optionNumbers : List Given → List Bool
+optionNumbers gs =
+    numberOk (pick timeWord gs) ∷ numberOk (pick verOrAbs gs) ∷ numberOk (pick flagsWord gs) ∷ numberOk (pick minWord gs) ∷ numberOk (pick maxWord gs) ∷ []
 
 -- the last fixed word and the options' words
 abbrev pub numbersOk : Rule → List (List ℕ) → List Given → Bool
-numbersOk r ws gs = isNumber (r .number) (wordAt (r .fixed - 1) ws) && optionNumbersOk gs
+numbersOk r ws gs = isNumber (r .number) (wordAt (r .fixed - 1) ws) && all (optionNumbers gs)
 
 -- the numbers of words that passed
 abbrev pub signedOf : List ℕ → ℤ
