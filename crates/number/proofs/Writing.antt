@@ -1,0 +1,113 @@
+-- Laws of the model's decimal text, and of a text written over a buffer byte by byte.
+-- Assumes nothing.
+use mathlib.Core.Path.{_≡_, refl, sym, ap, _∙_}
+use mathlib.Core.Bool.{Bool, true, false, cond}
+use mathlib.Core.List.{List, [], _∷_, _++_, append-assoc}
+use Prim.Native.Nat.{ℕ, zero, suc, _+_, _/_, _%_, _^_, _≤_, _<_}
+use native.Mathlib.Nat.{pow-succ', one-le-pow}
+use native.Mathlib.Omega.{arith}
+use native.Mathlib.Numerals.{add-one}
+use lib.Dec.{ltb}
+use lib.ListN.{length, drop, set, length-set, length-append}
+use lib.Seq.{drop-cons, getD-set-same, drop-set-lt, take-set-le, take-suc-set}
+use borrow.Author.Tests.{lt-ltb, le-ltb, ltb-true, ltb-false}
+use Rattle.model.specs.Bytes.{written}
+use Rattle.model.specs.Number.{digits, natText}
+use Rattle.number.specs.Wrote.{Wrote}
+
+-- ---- decimal text
+
+-- the digits stand before what follows them
+before-by : (x : ℕ) (a b s : List ℕ) (t : Bool) → a ≡ b ++ s → cond t ((48 + x) ∷ s) a ≡ cond t ((48 + x) ∷ []) b ++ s
+before-by x a b s true e = refl
+before-by x a b s false e = e
+
+digits-before : (f x : ℕ) (s : List ℕ) → digits f x s ≡ digits f x [] ++ s
+digits-before zero x s = refl
+digits-before (suc f) x s =
+    before-by x _ _ s (ltb x 10)
+    (rw (digits-before f (x / 10) ((48 + x % 10) ∷ s), digits-before f (x / 10) ((48 + x % 10) ∷ [])) (simp append-assoc))
+
+-- t is the text of x
+pub record Text (x : ℕ) (t : List ℕ) : Type 0 where
+  fuel : ℕ
+  low : x < 10 ^ suc fuel
+  is : t ≡ digits (suc fuel) x []
+
+pub text-of : (n : ℕ) → n < 2 ^ 64 → Text n (natText n)
+unfolding natText
+text-of n h = record { fuel = 19; low = omega arith; is = refl }
+
+-- a text of one digit
+pub one-digit : {x : ℕ} {t : List ℕ} → Text x t → x < 10 → t ≡ (48 + x) ∷ []
+one-digit {x} r h = r .is ∙ rw (lt-ltb x 10 h)
+
+-- a text of more: the last digit stands after the text of the tenth part
+pub record Split (x : ℕ) (t : List ℕ) : Type 0 where
+  pub front : List ℕ
+  pub text : Text (x / 10) front
+  pub is : t ≡ front ++ ((48 + x % 10) ∷ [])
+
+split-by : (f x : ℕ) → 10 ≤ x → x < 10 ^ suc f → Split x (digits (suc f) x [])
+split-by zero x h l = absurd (omega arith)
+split-by (suc f) x h l =
+    record {
+      front = digits (suc f) (x / 10) [];
+      text = record { fuel = f; low = omega (arith, pow-succ' 10 (suc f)); is = refl };
+      is = rw (le-ltb x 10 h) (digits-before (suc f) (x / 10) ((48 + x % 10) ∷ []));
+    }
+
+pub split : {x : ℕ} {t : List ℕ} → Text x t → 10 ≤ x → Split x t
+split {x} r h = rw (r .is) (split-by (r .fuel) x h (r .low))
+
+-- a text has a digit
+digits-some : (f x : ℕ) (s : List ℕ) → length s ≤ length (digits f x s)
+digits-some f x s = rw (digits-before f x s, length-append) (omega arith)
+
+some-by : (x : ℕ) (a : List ℕ) (t : Bool) → 1 ≤ length a → 1 ≤ length (cond t ((48 + x) ∷ []) a)
+some-by x a true h = omega arith
+some-by x a false h = h
+
+pub text-some : {x : ℕ} {t : List ℕ} → Text x t → 1 ≤ length t
+text-some {x} r = rw (r .is) (some-by x _ (ltb x 10) (digits-some (r .fuel) (x / 10) ((48 + x % 10) ∷ [])))
+
+-- powers of ten bound the length
+pub text-longer : (k : ℕ) {x : ℕ} {t : List ℕ} → Text x t → 10 ^ k ≤ x → k < length t
+text-longer zero r h = text-some r
+text-longer (suc k) {x} r h =
+    let e = pow-succ' 10 k in
+    let p = split r (omega (arith, one-le-pow k 10 (omega arith))) in
+    omega (arith, text-longer k (p .text) (omega arith), simp length-append at (ap length (p .is)))
+
+shorter-by : (k x : ℕ) {t : List ℕ} → Text x t → (b : Bool) → ltb x 10 ≡ b → ((p : Split x t) → length (p .front) ≤ k) → length t ≤ suc k
+shorter-by k x r true e rest = omega (arith, ap length (one-digit r (ltb-true x 10 e)))
+shorter-by k x r false e rest =
+    let p = split r (ltb-false x 10 e) in
+    omega (arith, rest p, simp length-append at (ap length (p .is)))
+
+pub text-shorter : (k : ℕ) {x : ℕ} {t : List ℕ} → Text x t → 1 ≤ k → x < 10 ^ k → length t ≤ k
+text-shorter zero r s h = absurd (omega arith)
+text-shorter (suc zero) r s h = omega (arith, ap length (one-digit r h))
+text-shorter (suc (suc k)) {x} r s h =
+    shorter-by (suc k) x r (ltb x 10) refl (λ p. text-shorter (suc k) (p .text) (omega arith) (omega (arith, pow-succ' 10 (suc k))))
+
+-- ---- a text written over a buffer
+
+-- the last byte of a text is stored: the text before it is to be written
+pub written-last : (at : ℕ) (s : List ℕ) (x : ℕ) (b : List ℕ) (n : ℕ) → length s ≡ n → at + n < length b
+    → written at (s ++ (x ∷ [])) b ≡ written at s (set b (at + n) x)
+written-last at s x b n q h =
+    let i = at + n in
+    let tail : drop i (set b i x) ≡ x ∷ drop (suc i) b =
+    drop-cons (set b i x) i 0 (rw (length-set b i x) h) ∙ rw (getD-set-same b i x 0 h, drop-set-lt (suc i) b i x (omega arith)) in
+    let e : at + length (s ++ (x ∷ [])) ≡ suc i = omega (arith, length-append s (x ∷ [])) in
+    rw (take-set-le at b i x (omega arith), q, tail, e) (simp append-assoc)
+
+-- the first byte of a text is stored: the text after it is to be written
+pub written-first : (at x : ℕ) (s b : List ℕ) → at < length b → written at (x ∷ s) b ≡ written (at + 1) s (set b at x)
+written-first at x s b h =
+    let e : at + length (x ∷ s) ≡ suc at + length s = omega arith in
+    rw (add-one at, take-suc-set b at x h, drop-set-lt (suc at + length s) b at x (omega arith), e) (simp append-assoc)
+
+pub wrote-first : {at x : ℕ} {s b after : List ℕ} {next : ℕ} → at < length b → Wrote (at + 1) s (set b at x) after next → Wrote at (x ∷ s) b after next
+wrote-first {at} {x} {s} {b} h w = record { place = omega (arith, w .place); bytes = w .bytes ∙ sym (written-first at x s b h) }

@@ -1,0 +1,187 @@
+-- Whether bytes are a record in use, by tests of bytes 0 to 23 and of the zeros after key and value.
+use mathlib.Core.Path.{_≡_, refl, sym, ap, _∙_}
+use mathlib.Core.Bool.{Bool, true, false, _&&_}
+use mathlib.Core.List.{List, [], _∷_, _++_}
+use Prim.Native.Nat.{ℕ, _+_, _-_, _^_, _≤_, _<_}
+use native.Mathlib.Omega.{arith}
+use lib.ListN.{length, getD, take, drop, replicate}
+use lib.Seq.{drop-at, take-all}
+use borrow.Author.Tests.{ltb-true, leb-true, eqb-true, le-leb, lt-ltb, eq-eqb}
+use Rattle.model.specs.Bytes.{same, part, padded}
+use Rattle.model.specs.Table.{form128, recordBytes, fields, isRecord}
+use Rattle.slice.proofs.Equal.{never, and-left, and-right, test-eq, same-true, same-refl}
+use Rattle.slice.proofs.Written.{length-part, part-add, part-is-bytes, bytesFrom}
+use Rattle.slice.proofs.LittleEndian.{Bytes, littleEndian-part, part-bound}
+use Rattle.record.specs.Record.{InUse, head, headRules, isHead}
+use Rattle.record.proofs.Pieces.{InRange, every, headOf, pieces, part-key, part-value}
+use Rattle.record.proofs.Reading.{IsRecord, isRecord-true, is-isRecord, first-used, in-use-record}
+
+-- ---- zeros after a text
+
+-- what is left of the bytes from `at` to `end` after k of them, as code has it
+abbrev pub restAfter : (at end k : ℕ) → List ℕ → List ℕ
+restAfter at end k b = take (end - (at + k)) (drop (at + k) b)
+
+abbrev pub isZeros : List ℕ → Bool
+isZeros s = same s (replicate (length s) 0)
+
+module _ (at n k : ℕ) (b : List ℕ) (fits : at + n ≤ length b) (h : k ≤ n) where
+  rest-is : restAfter at (at + n) k b ≡ part (at + k) (n - k) b
+  rest-is = let e : at + n - (at + k) ≡ n - k = omega arith in ap (λ (m : ℕ). take m (drop (at + k) b)) e
+
+  length-rest : length (restAfter at (at + n) k b) ≡ n - k
+  length-rest = ap length rest-is ∙ length-part (at + k) (n - k) b (omega arith)
+
+  length-text : length (part at k b) ≡ k
+  length-text = length-part at k b (omega arith)
+
+  split : part at n b ≡ part at k b ++ restAfter at (at + n) k b
+  split =
+      let e : k + (n - k) ≡ n = omega arith in
+      ap (λ (m : ℕ). part at m b) (sym e) ∙ part-add at k (n - k) b ∙ ap (λ (l : List ℕ). part at k b ++ l) (sym rest-is)
+
+  -- zeros after k bytes: the part is these k, padded
+  pub zeros-padded : isZeros (restAfter at (at + n) k b) ≡ true → part at n b ≡ padded n (part at k b)
+  zeros-padded z =
+      let zeros = same-true (restAfter at (at + n) k b) _ z in
+      split ∙ ap (λ (l : List ℕ). part at k b ++ l) (zeros ∙ ap (λ (m : ℕ). replicate m 0) (length-rest ∙ ap (λ (m : ℕ). n - m) (sym length-text)))
+
+  pub padded-zeros : part at n b ≡ padded n (part at k b) → isZeros (restAfter at (at + n) k b) ≡ true
+  padded-zeros e =
+      let l = length-text in
+      let zeros : restAfter at (at + n) k b ≡ replicate (n - length (part at k b)) 0 =
+      sym (drop-at (part at k b) _ k l) ∙ ap (drop k) (sym split ∙ e) ∙ drop-at (part at k b) _ k l in
+      let count : length (restAfter at (at + n) k b) ≡ n - length (part at k b) = omega (arith, length-rest) in
+      rw (count, zeros) (same-refl (replicate (n - length (part at k b)) 0))
+
+-- ---- the tests of a record in use
+
+-- the bytes after the key and after the value, which must be zeros
+abbrev pub keyRest : List ℕ → List ℕ
+keyRest b = restAfter 24 48 (getD b 1 0) b
+
+abbrev pub valueRest : List ℕ → List ℕ
+valueRest b = restAfter 48 128 (getD b 2 0) b
+
+pub record HeadIs (b : List ℕ) : Type 0 where
+  pub first : getD b 0 0 ≡ 1
+  pub key-from : 1 ≤ getD b 1 0
+  pub key-to : getD b 1 0 ≤ 24
+  pub value-to : getD b 2 0 ≤ 64
+  pub mark : getD b 3 0 ≡ 0
+  pub version-to : fields b .version < 2 ^ 63
+  pub expiry-to : fields b .expiry ≤ 2 ^ 62
+
+pub isHead-true : (b : List ℕ) → isHead b ≡ true → HeadIs b
+unfolding isHead
+isHead-true b h =
+    let p = every (headRules b) h in
+    record {
+      first = eqb-true _ _ (p .0);
+      key-from = leb-true _ _ (p .1 .0);
+      key-to = leb-true _ _ (p .1 .1 .0);
+      value-to = leb-true _ _ (p .1 .1 .1 .0);
+      mark = eqb-true _ _ (p .1 .1 .1 .1 .0);
+      version-to = ltb-true _ _ (p .1 .1 .1 .1 .1 .0);
+      expiry-to = leb-true _ _ (p .1 .1 .1 .1 .1 .1 .0);
+    }
+
+is-isHead : (b : List ℕ) → HeadIs b → isHead b ≡ true
+unfolding isHead
+is-isHead b h =
+    rw (
+      eq-eqb (getD b 0 0) 1 (h .first),
+      le-leb 1 (getD b 1 0) (h .key-from),
+      le-leb (getD b 1 0) 24 (h .key-to),
+      le-leb (getD b 2 0) 64 (h .value-to),
+      eq-eqb (getD b 3 0) 0 (h .mark),
+      lt-ltb (fields b .version) (2 ^ 63) (h .version-to),
+      le-leb (fields b .expiry) (2 ^ 62) (h .expiry-to),
+    )
+
+-- what the bytes of a record in use are at its places
+module _ (b : List ℕ) (h : IsRecord b) where
+  pub key-length : getD b 1 0 ≡ length (fields b .key)
+  unfolding recordBytes
+  key-length = ap (λ (l : List ℕ). getD l 1 0) (sym (h .bytes))
+
+  pub value-length : getD b 2 0 ≡ length (fields b .value)
+  unfolding recordBytes
+  value-length = ap (λ (l : List ℕ). getD l 2 0) (sym (h .bytes))
+
+  mark-is : getD b 3 0 ≡ 0
+  unfolding recordBytes
+  mark-is = ap (λ (l : List ℕ). getD l 3 0) (sym (h .bytes))
+
+  pub head-is : HeadIs b
+  head-is = record {
+    first = first-used b h;
+    key-from = omega (arith, key-length, h .range .key-from);
+    key-to = omega (arith, key-length, h .range .key-to);
+    value-to = omega (arith, value-length, h .range .value-to);
+    mark = mark-is;
+    version-to = h .range .version-to;
+    expiry-to = h .range .expiry-to;
+  }
+
+  key-part : part 24 24 b ≡ padded 24 (fields b .key)
+  key-part = ap (part 24 24) (sym (h .bytes)) ∙ part-key (fields b) (h .range .key-to) (h .range .value-to)
+
+  value-part : part 48 80 b ≡ padded 80 (fields b .value)
+  value-part = ap (part 48 80) (sym (h .bytes)) ∙ part-value (fields b) (h .range .key-to) (h .range .value-to)
+
+module _ (b : List ℕ) (size : length b ≡ 128) where
+  -- the tests from left to right
+  forward : IsRecord b → isZeros (keyRest b) && isZeros (valueRest b) ≡ true
+  forward h =
+      let hd = head-is b h in
+      rw (padded-zeros 24 24 (getD b 1 0) b (omega arith) (hd .key-to) (key-part b h), padded-zeros 48 80 (getD b 2 0) b (omega arith) (omega arith) (value-part b h))
+
+  module _ (known : Bytes b) (hd : HeadIs b) where
+    length-key : length (fields b .key) ≡ getD b 1 0
+    length-key = length-part 24 (getD b 1 0) b (omega (arith, hd .key-to))
+
+    length-value : length (fields b .value) ≡ getD b 2 0
+    length-value = length-part 48 (getD b 2 0) b (omega (arith, hd .value-to))
+
+    range-is : InRange (fields b)
+    range-is = record {
+      key-from = omega (arith, length-key, hd .key-from);
+      key-to = omega (arith, length-key, hd .key-to);
+      value-to = omega (arith, length-value, hd .value-to);
+      flags-to = part-bound 4 4 b known (omega arith);
+      version-to = hd .version-to;
+      expiry-to = hd .expiry-to;
+    }
+
+    first-four : 1 ∷ length (fields b .key) ∷ length (fields b .value) ∷ 0 ∷ [] ≡ part 0 4 b
+    unfolding bytesFrom
+    first-four = sym (part-is-bytes 4 b 0 (omega arith) ∙ rw (length-key, length-value, hd .first, hd .mark))
+
+    head-part : headOf (length (fields b .value)) (fields b) ≡ part 0 24 b
+    unfolding head
+    head-part =
+        rw (part-add 0 4 20 b, part-add 4 4 16 b, part-add 8 8 8 b, ← first-four, littleEndian-part 4 4 b known (omega arith), littleEndian-part 8 8 b known (omega arith), littleEndian-part 16 8 b known (omega arith))
+
+    whole : part 0 24 b ++ part 24 24 b ++ part 48 80 b ≡ b
+    whole = ap (λ (l : List ℕ). l ++ part 48 80 b) (sym (part-add 0 24 24 b)) ∙ sym (part-add 0 48 80 b) ∙ take-all 128 b (omega arith)
+
+    backward : isZeros (keyRest b) && isZeros (valueRest b) ≡ true → IsRecord b
+    backward z =
+        let k = zeros-padded 24 24 (getD b 1 0) b (omega arith) (hd .key-to) (and-left (isZeros (keyRest b)) _ z) in
+        let v = zeros-padded 48 80 (getD b 2 0) b (omega arith) (omega (arith, hd .value-to)) (and-right (isZeros (keyRest b)) _ z) in
+        record { range = range-is; bytes = rw (pieces (fields b) (range-is .value-to), head-part, ← k, ← v) whole }
+
+    pub isRecord-rests : isRecord form128 b ≡ isZeros (keyRest b) && isZeros (valueRest b)
+    isRecord-rests = test-eq _ _ (λ e. forward (isRecord-true b e)) (λ z. is-isRecord b (backward z))
+
+-- bytes 0 to 23 alone refuse it
+pub isRecord-head : (b : List ℕ) → isHead b ≡ false → isRecord form128 b ≡ false
+isRecord-head b n = by-test (isRecord form128 b) refl
+  where
+    by-test : (t : Bool) → isRecord form128 b ≡ t → isRecord form128 b ≡ false
+    by-test true e = never (isHead b) (is-isHead b (head-is b (isRecord-true b e))) n
+    by-test false e = e
+
+pub in-use-head : (b : List ℕ) → InUse b → HeadIs b
+in-use-head b h = head-is b (in-use-record b h)

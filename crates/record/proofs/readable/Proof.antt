@@ -1,0 +1,34 @@
+-- `record::readable` meets its contract. By byte 0 the bytes can only be an empty record, or only one in use.
+use Prim.Native.Nat.{ℕ}
+use mathlib.Core.Path.{sym, ap, _∙_}
+use lib.ListN.{replicate}
+use Rattle.model.specs.Bytes.{same}
+use Rattle.record.proofs.Reading.{readable-zero, readable-other}
+use borrow.Author.Needs.{needs}
+use Rattle.record.proofs.readable.Statement.{statement}
+use Rattle.record.proofs.readable.Tie as tie
+
+shared-slice-read-if1 : tie.Need-shared-slice-read-if1
+shared-slice-read-if1 c = search needs
+
+is-zero-requires : tie.Need-is-zero-requires
+is-zero-requires c κs = search needs
+
+returns : tie.Need-returns
+returns c =
+    let s = c .before .before .before .before in
+    let b = s .args .r .now in
+    c .is-zero .ensures ∙ ap (λ (n : ℕ). same b (replicate n 0)) (s .pre) ∙ sym (readable-zero b (c .before .if1 .taken))
+
+is-record-requires : tie.Need-is-record-requires
+is-record-requires c κs = search needs
+
+returns-2 : tie.Need-returns-2
+returns-2 c =
+    let s = c .before .before .before .before in
+    c .is-record .ensures ∙ sym (readable-other (s .args .r .now) (c .before .if1 .left))
+
+pub readable-spec : {M : Type 1} → statement M
+readable-spec =
+    tie.close
+    (tie.spec shared-slice-read-if1 is-zero-requires returns is-record-requires returns-2)

@@ -1,0 +1,199 @@
+// One record of 128 bytes: its check, its fields, and the writes to it.
+ghost use mathlib.Core.Path.{_≡_};
+ghost use mathlib.Core.Bool.{not};
+ghost use mathlib.Core.List.{_++_};
+ghost use Prim.Native.Nat.{_+_, _≤_};
+ghost use lib.ListN.{length, replicate};
+ghost use Rattle.model.specs.Bytes.{written, littleEndian};
+ghost use Rattle.model.specs.Table.{form128, keyLimit, versionAt, expiryAt, readSlot, recordBytes, isRecord, fields, holds, isEmpty, live};
+ghost use Rattle.model.specs.Command.{isSome};
+ghost use Rattle.record.specs.Record.{slotOf, Readable, InUse, withValue, head, isHead};
+
+// Whether the bytes are a record, empty or in use.
+pub fn readable(r: &[u8]) -> bool
+    requires { ⌜ length (now r) ≡ 128 ⌝ }
+    ensures { λ b. ⌜ b ≡ isSome (readSlot form128 (now (r .entry))) ⌝ }
+{
+    if r[0] == 0 {
+        return slice::is_zero(r);
+    }
+    is_record(r)
+}
+
+// Whether the bytes are a record in use.
+fn is_record(r: &[u8]) -> bool
+    requires { ⌜ length (now r) ≡ 128 ⌝ }
+    ensures { λ b. ⌜ b ≡ isRecord form128 (now (r .entry)) ⌝ }
+{
+    if !is_head(r) {
+        return false;
+    }
+    let key_end = 24 + r[1] as usize;
+    let value_end = 48 + r[2] as usize;
+    let key_padded = slice::is_zero(&r[key_end..48]);
+    let value_padded = slice::is_zero(&r[value_end..128]);
+    key_padded & value_padded
+}
+
+// Whether bytes 0 to 23 can be of a record in use.
+fn is_head(r: &[u8]) -> bool
+    requires { ⌜ length (now r) ≡ 128 ⌝ }
+    ensures { λ b. ⌜ b ≡ isHead (now (r .entry)) ⌝ }
+{
+    let version_fits = version(r) < 9223372036854775808;
+    let expiry_fits = expiry(r) <= 4611686018427387904;
+    (r[0] == 1)
+        & ((1 <= r[1])
+            & ((r[1] <= 24) & ((r[2] <= 64) & ((r[3] == 0) & (version_fits & expiry_fits)))))
+}
+
+// Whether a record is in use.
+pub fn in_use(r: &[u8]) -> bool
+    requires { ⌜ Readable (now r) ⌝ }
+    ensures { λ b. ⌜ b ≡ not (isEmpty (slotOf (now (r .entry)))) ⌝ }
+{
+    r[0] == 1
+}
+
+// The key of a record in use.
+pub fn key(r: &[u8]) -> &[u8]
+    requires { ⌜ InUse (now r) ⌝ }
+    ensures { λ k. ⌜ now k ≡ fields (now (r .entry)) .key ⌝ }
+{
+    let n = r[1] as usize;
+    &r[24..24 + n]
+}
+
+// The value of a record in use.
+pub fn value(r: &[u8]) -> &[u8]
+    requires { ⌜ InUse (now r) ⌝ }
+    ensures { λ v. ⌜ now v ≡ fields (now (r .entry)) .value ⌝ }
+{
+    let n = r[2] as usize;
+    &r[48..48 + n]
+}
+
+// Whether a record is in use and has the key.
+pub fn has_key(r: &[u8], key: &[u8]) -> bool
+    requires { ⌜ Readable (now r) ⌝ }
+    ensures { λ b. ⌜ b ≡ holds (now (key .entry)) (slotOf (now (r .entry))) ⌝ }
+{
+    if r[0] == 0 {
+        return false;
+    }
+    let n = r[1] as usize;
+    slice::same(key, &r[24..24 + n])
+}
+
+// The flags.
+pub fn flags(r: &[u8]) -> u32
+    requires { ⌜ length (now r) ≡ 128 ⌝ }
+    ensures { λ n. ⌜ n ≡ fields (now (r .entry)) .flags ⌝ }
+{
+    slice::get4(r, 4)
+}
+
+// The version.
+pub fn version(r: &[u8]) -> u64
+    requires { ⌜ length (now r) ≡ 128 ⌝ }
+    ensures { λ n. ⌜ n ≡ fields (now (r .entry)) .version ⌝ }
+{
+    slice::get8(r, 8)
+}
+
+// The expiry.
+pub fn expiry(r: &[u8]) -> u64
+    requires { ⌜ length (now r) ≡ 128 ⌝ }
+    ensures { λ n. ⌜ n ≡ fields (now (r .entry)) .expiry ⌝ }
+{
+    slice::get8(r, 16)
+}
+
+// Whether a record is live at a time: it has no expiry, or a later one.
+pub fn is_live(r: &[u8], now: u64) -> bool
+    requires { ⌜ length (r .now) ≡ 128 ⌝ }
+    ensures { λ b. ⌜ b ≡ live now (fields (r .entry .now)) ⌝ }
+{
+    let e = expiry(r);
+    if e == 0 {
+        return true;
+    }
+    now < e
+}
+
+// Fills all 128 bytes with a record in use.
+pub fn write(r: &mut [u8], key: &[u8], value: &[u8], flags: u32, version: u64, expiry: u64)
+    requires { ⌜ (length (now r) ≡ 128) × (length (now key) ≤ 24) × (length (now value) ≤ 64) ⌝ }
+    ensures { λ _. ⌜ now (r .exit) ≡ recordBytes form128 (record { key = now (key .entry); value = now (value .entry); flags = flags; version = version; expiry = expiry }) ⌝ }
+{
+    write_head(
+        r,
+        key.len() as u8,
+        value.len() as u8,
+        flags,
+        version,
+        expiry,
+    );
+    slice::fill(&mut r[24..48], key);
+    slice::fill(&mut r[48..128], value);
+}
+
+// Writes bytes 0 to 23 of a record in use.
+fn write_head(r: &mut [u8], key: u8, value: u8, flags: u32, version: u64, expiry: u64)
+    requires { ⌜ length (now r) ≡ 128 ⌝ }
+    ensures { λ _. ⌜ now (r .exit) ≡ written 0 (head key value flags version expiry) (now (r .entry)) ⌝ }
+{
+    r[0] = 1;
+    r[1] = key;
+    r[2] = value;
+    r[3] = 0;
+    slice::put4(r, 4, flags);
+    slice::put8(r, 8, version);
+    slice::put8(r, 16, expiry);
+}
+
+// Stores a version.
+pub fn set_version(r: &mut [u8], version: u64)
+    requires { ⌜ length (now r) ≡ 128 ⌝ }
+    ensures { λ _. ⌜ now (r .exit) ≡ written versionAt (littleEndian 8 version) (now (r .entry)) ⌝ }
+{
+    slice::put8(r, 8, version);
+}
+
+// Stores an expiry.
+pub fn set_expiry(r: &mut [u8], expiry: u64)
+    requires { ⌜ length (now r) ≡ 128 ⌝ }
+    ensures { λ _. ⌜ now (r .exit) ≡ written expiryAt (littleEndian 8 expiry) (now (r .entry)) ⌝ }
+{
+    slice::put8(r, 16, expiry);
+}
+
+// Makes a record empty.
+pub fn clear(r: &mut [u8])
+    requires { ⌜ length (now r) ≡ 128 ⌝ }
+    ensures { λ _. ⌜ now (r .exit) ≡ replicate 128 0 ⌝ }
+{
+    slice::clear(r);
+}
+
+// Writes bytes after the value of a record in use.
+pub fn append(r: &mut [u8], s: &[u8])
+    requires { ⌜ InUse (now r) × (length (fields (now r) .value) + length (now s) ≤ 64) ⌝ }
+    ensures { λ _. ⌜ now (r .exit) ≡ recordBytes form128 (withValue (fields (now (r .entry)) .value ++ now (s .entry)) (fields (now (r .entry)))) ⌝ }
+{
+    let n = r[2] as usize;
+    slice::copy(r, 48 + n, s);
+    r[2] = (n + s.len()) as u8;
+}
+
+// Writes bytes before the value of a record in use, which is moved up to make room.
+pub fn prepend(r: &mut [u8], s: &[u8])
+    requires { ⌜ InUse (now r) × (length (fields (now r) .value) + length (now s) ≤ 64) ⌝ }
+    ensures { λ _. ⌜ now (r .exit) ≡ recordBytes form128 (withValue (now (s .entry) ++ fields (now (r .entry)) .value) (fields (now (r .entry)))) ⌝ }
+{
+    let n = r[2] as usize;
+    let m = s.len();
+    slice::move_up(&mut r[48..128], n, m);
+    slice::copy(r, 48, s);
+    r[2] = (n + m) as u8;
+}
