@@ -1,13 +1,15 @@
 -- The bench sheet holds of `call`, by computation, and fails of each wrong store at the row that document 01 names, and not before.
-use Prim.Native.Nat.{ℕ}
+use Prim.Native.Nat.{ℕ, _+_}
 use mathlib.Core.Path.{_≡_, refl, ap}
 use mathlib.Core.List.{List, map}
 use native.Mathlib.Omega.{arith}
 use lib.ListN.{take, getD}
 use Rattle.model.specs.Table.{form128, versionAt, useAt}
 use Rattle.model.specs.Call.{Outcome, Store, untouched, call}
+use Rattle.model.specs.CurrentValue.{currentValue}
+use Rattle.model.specs.Resp.{encode}
 use Rattle.model.specs.BenchSheet.{rows, zeros, expected, outcomes, BenchSheet}
-use Rattle.model.specs.MoreRows.{also, others, Passes, raws, Numbers}
+use Rattle.model.specs.MoreRows.{also, others, Passes, raws, Numbers, View, views}
 use Rattle.model.specs.WrongStores.{refusesAll, writesNothing, saysOk, obeysFirst, storesOldVersion}
 use Rattle.model.proofs.Compute.{computing}
 
@@ -30,14 +32,18 @@ P4 = 3
 abbrev P6 : ℕ
 P6 = 5
 
--- the store passes the rows before row i, and the sheet fails
+-- the store passes the rows before row i, and fails that one; so the sheet fails
 pub record FallsAt (i : ℕ) (s : Store) : Type 0 where
   pub before : take i (outcomes s (zeros 128) rows) ≡ take i (map expected rows)
-  pub falls : BenchSheet s → ⊥
+  pub falls : take (i + 1) (outcomes s (zeros 128) rows) ≡ take (i + 1) (map expected rows) → ⊥
 
--- what the claim says of row i
-at-row : (i : ℕ) (s : Store) → BenchSheet s
-    → getD (outcomes s (zeros 128) rows) i (untouched 0 (zeros 0) (zeros 0)) ≡ getD (map expected rows) i (untouched 0 (zeros 0) (zeros 0))
+pub sheet-fails : (i : ℕ) (s : Store) → FallsAt i s → BenchSheet s → ⊥
+sheet-fails i s h b = h .falls (ap (take (i + 1)) b)
+
+-- what row i asks
+at-row : (i : ℕ) (s : Store) → take (i + 1) (outcomes s (zeros 128) rows) ≡ take (i + 1) (map expected rows)
+    → getD (take (i + 1) (outcomes s (zeros 128) rows)) i (untouched 0 (zeros 0) (zeros 0))
+    ≡ getD (take (i + 1) (map expected rows)) i (untouched 0 (zeros 0) (zeros 0))
 at-row i s h = ap (λ (l : List Outcome). getD l i (untouched 0 (zeros 0) (zeros 0))) h
 
 -- P1's reply is missing
@@ -92,3 +98,7 @@ others-pass = refl
 pub raws-pass : Numbers (call form128) raws
 unfolding computing
 raws-pass = refl
+
+pub views-pass : map (λ (v : View). currentValue form128 (v .table) (v .time) (encode (v .words))) views ≡ map (λ (v : View). v .shown) views
+unfolding computing
+views-pass = refl

@@ -7,8 +7,8 @@ use Rattle.model.specs.Command.{readOptions, parse}
 use Rattle.model.specs.Execute.{execute}
 use Rattle.model.specs.Call.{call}
 use Rattle.model.specs.CurrentValue.{wordStart, currentValue}
-use Rattle.model.specs.History.{gotOf}
+use Rattle.model.specs.History.{gotOf, arrayBegins}
 
 unfoldable pub computing : Unit {0}
-unfolding littleEndian fromLittleEndian natText readSigned readVersion readFlags recordBytes readSlot readTable distinct findKey lowest slotFor encode readLine readBulk decode replyBytes readOptions parse execute call wordStart currentValue gotOf
+unfolding littleEndian fromLittleEndian natText readSigned readVersion readFlags recordBytes readSlot readTable distinct findKey lowest slotFor encode readLine readBulk decode replyBytes readOptions parse execute call wordStart currentValue gotOf arrayBegins
 computing = tt

@@ -1,17 +1,19 @@
 -- Demand 3's premises are met by a worked history, so the claim is not empty; and two wrong stores do not meet the claim.
-use Prim.Native.Nat.{ℕ, _+_}
+use Prim.Native.Nat.{ℕ, suc, _+_}
 use Prim.Native.String.{String}
 use mathlib.Core.Path.{_≡_, refl, ap}
 use mathlib.Core.List.{List, [], _∷_, map}
+use mathlib.Core.Option.{some}
 use native.Mathlib.Omega.{arith}
 use lib.ListN.{getD, replicate}
-use Rattle.model.specs.Bytes.{text}
+use Rattle.model.specs.Bytes.{text, uppers}
+use Rattle.model.specs.Number.{readVersion}
 use Rattle.model.specs.Table.{form128, used, versionAt, tableBytes, recordBytes, recordAt}
-use Rattle.model.specs.Resp.{encode}
+use Rattle.model.specs.Resp.{encode, decode}
 use Rattle.model.specs.Call.{Store, call}
-use Rattle.model.specs.History.{Label, outside, reads, writes, Event, run, final, committed}
-use Rattle.model.specs.Serializable.{Holds, Lawful, Serial, Serializable}
-use Rattle.model.specs.WrongStores.{writesNothing, obeysFirstSwap}
+use Rattle.model.specs.History.{Label, outside, reads, writes, Event, Entry, gotBy, run, final, committed}
+use Rattle.model.specs.Serializable.{Holds, Reads, Writes, Lawful, Serial, Serializable}
+use Rattle.model.specs.WrongStores.{writesNothing, obeysFirst, obeysFirstSwap}
 use Rattle.model.proofs.Compute.{computing}
 use Rattle.model.proofs.Serial.{serializable128}
 
@@ -33,7 +35,7 @@ event l time ws = record { label = l; time = time; command = encode (map text ws
 -- ---- the worked history
 
 -- transactions 1 and 2 overlap and 2 is stale; a call on another key; one that finds the table full; one that is malformed, after foo's
--- expiry; and transaction 3, which reads what 1 wrote
+-- expiry; transaction 3, which reads what 1 wrote; 4, whose EXCAS is refused; and 5, which sends none
 abbrev history : List Event
 history =
     event (reads 1) 1000 ("EXGET" ∷ "foo" ∷ [])
@@ -45,10 +47,41 @@ history =
     ∷ event outside 9000 []
     ∷ event (reads 3) 1006 ("EXGET" ∷ "foo" ∷ [])
     ∷ event (writes 3) 1007 ("EXCAS" ∷ "foo" ∷ "31100" ∷ "2" ∷ "KEEPTTL" ∷ [])
+    ∷ event (reads 4) 1008 ("EXGET" ∷ "foo" ∷ [])
+    ∷ event (writes 4) 1009 ("EXCAS" ∷ "foo" ∷ "431100" ∷ "3" ∷ "KEEP" ∷ [])
+    ∷ event (reads 5) 1010 ("EXGET" ∷ "foo" ∷ [])
     ∷ []
+
+-- ---- its premises
+
+-- a transaction's EXGET
+get : (e : Event) (name : List ℕ) (options : List (List ℕ)) → decode (e .command) ≡ some (name ∷ text "foo" ∷ options) → uppers name ≡ text "EXGET"
+    → Reads form128 0 (text "foo") update e
+get e name options d n = record { name = name; options = options; decoded = d; exget = n }
+
+-- its EXCAS, after it got the text v with the version n
+swap : (t : ℕ) (past : List Entry) (e : Event) (v : String) (n : ℕ) (name version option : List ℕ)
+    → gotBy t past ≡ some (record { text = text v; version = n })
+    → decode (e .command) ≡ some (name ∷ text "foo" ∷ update t (text v) ∷ version ∷ option ∷ [])
+    → uppers name ≡ text "EXCAS" → readVersion version ≡ some n → uppers option ≡ text "KEEPTTL" → Writes form128 0 (text "foo") update t past e
+swap t past e v n name version option g d a b c = record {
+  got = record { text = text v; version = n };
+  gotten = g;
+  name = name;
+  version = version;
+  option = option;
+  decoded = d;
+  excas = a;
+  same-version = b;
+  keepttl = c;
+}
 
 bar-is-not-foo : text "bar" ≡ text "foo" → ⊥
 bar-is-not-foo e = let z : _≡_ {A = ℕ} 98 102 = cc in omega arith
+
+-- a refused call asks nothing
+refused : {A : Type 0} (n : ℕ) → suc n ≡ 0 → A
+refused n e = absurd (omega arith)
 
 pub history-holds : Holds form128 0 (text "foo") update start
 unfolding computing
@@ -58,62 +91,40 @@ pub history-lawful : Lawful form128 0 (text "foo") update [] (run (call form128)
 unfolding computing
 history-lawful = (
   (λ z. refl),
-  (refl, record { name = text "EXGET"; options = []; decoded = refl; exget = refl }),
+  (refl, get _ (text "EXGET") [] refl refl),
   (
     (λ z. refl),
-    (refl, record { name = text "exget"; options = text "WithFlags" ∷ []; decoded = refl; exget = refl }),
+    (refl, get _ (text "exget") (text "WithFlags" ∷ []) refl refl),
     (
       (λ z. refl),
       (λ z. record { words = text "EXSET" ∷ text "bar" ∷ text "y" ∷ []; decoded = refl; apart = bar-is-not-foo }),
       (
         (λ z. refl),
-        (λ z. record {
-          got = record { text = text "100"; version = 1 };
-          gotten = refl;
-          name = text "EXCAS";
-          version = text "1";
-          option = text "KEEPTTL";
-          decoded = refl;
-          excas = refl;
-          same-version = refl;
-          keepttl = refl;
-        }),
+        (λ z. swap 1 _ _ "100" 1 (text "EXCAS") (text "1") (text "KEEPTTL") refl refl refl refl refl),
         (
           (λ z. refl),
-          (λ z. record {
-            got = record { text = text "100"; version = 1 };
-            gotten = refl;
-            name = text "EXCAS";
-            version = text "1";
-            option = text "KeepTtl";
-            decoded = refl;
-            excas = refl;
-            same-version = refl;
-            keepttl = refl;
-          }),
+          (λ z. swap 2 _ _ "100" 1 (text "EXCAS") (text "1") (text "KeepTtl") refl refl refl refl refl),
           (
             (λ z. refl),
-            (λ z. let e : _≡_ {A = ℕ} 17 0 = z in absurd (omega arith)),
+            refused 16,
             (
-              (λ z. let e : _≡_ {A = ℕ} 4 0 = z in absurd (omega arith)),
-              (λ z. let e : _≡_ {A = ℕ} 4 0 = z in absurd (omega arith)),
+              refused 3,
+              refused 3,
               (
                 (λ z. refl),
-                (refl, record { name = text "EXGET"; options = []; decoded = refl; exget = refl }),
+                (refl, get _ (text "EXGET") [] refl refl),
                 (
                   (λ z. refl),
-                  (λ z. record {
-                    got = record { text = text "1100"; version = 2 };
-                    gotten = refl;
-                    name = text "EXCAS";
-                    version = text "2";
-                    option = text "KEEPTTL";
-                    decoded = refl;
-                    excas = refl;
-                    same-version = refl;
-                    keepttl = refl;
-                  }),
-                  tt,
+                  (λ z. swap 3 _ _ "1100" 2 (text "EXCAS") (text "2") (text "KEEPTTL") refl refl refl refl refl),
+                  (
+                    (λ z. refl),
+                    (refl, get _ (text "EXGET") [] refl refl),
+                    (
+                      (λ z. refl),
+                      refused 7,
+                      ((λ z. refl), (refl, get _ (text "EXGET") [] refl refl), tt),
+                    ),
+                  ),
                 ),
               ),
             ),
@@ -160,22 +171,20 @@ unfolding computing
 writesNothing-not-serializable h =
     let s = h 0 (text "foo") update start once (record { used = refl; key = refl }) (
       (λ z. refl),
-      (refl, record { name = text "EXGET"; options = []; decoded = refl; exget = refl }),
-      (
-        (λ z. refl),
-        (λ z. record {
-          got = record { text = text "100"; version = 1 };
-          gotten = refl;
-          name = text "EXCAS";
-          version = text "1";
-          option = text "KEEPTTL";
-          decoded = refl;
-          excas = refl;
-          same-version = refl;
-          keepttl = refl;
-        }),
-        tt,
-      ),
+      (refl, get _ (text "EXGET") [] refl refl),
+      ((λ z. refl), (λ z. swap 1 _ _ "100" 1 (text "EXCAS") (text "1") (text "KEEPTTL") refl refl refl refl refl), tt),
+    ) in
+    let e : _≡_ {A = ℕ} 1 2 = ap (λ (b : List ℕ). getD b versionAt 0) (s .bytes) in
+    omega arith
+
+-- so does this one, which finds a table that is not empty
+pub obeysFirst-not-serializable : Serializable form128 obeysFirst → ⊥
+unfolding computing
+obeysFirst-not-serializable h =
+    let s = h 0 (text "foo") update start once (record { used = refl; key = refl }) (
+      (λ z. refl),
+      (refl, get _ (text "EXGET") [] refl refl),
+      ((λ z. refl), (λ z. swap 1 _ _ "100" 1 (text "EXCAS") (text "1") (text "KEEPTTL") refl refl refl refl refl), tt),
     ) in
     let e : _≡_ {A = ℕ} 1 2 = ap (λ (b : List ℕ). getD b versionAt 0) (s .bytes) in
     omega arith
@@ -186,38 +195,14 @@ unfolding computing
 obeysFirstSwap-not-serializable h =
     let s = h 0 (text "foo") update start twice (record { used = refl; key = refl }) (
       (λ z. refl),
-      (refl, record { name = text "EXGET"; options = []; decoded = refl; exget = refl }),
+      (refl, get _ (text "EXGET") [] refl refl),
       (
         (λ z. refl),
-        (λ z. record {
-          got = record { text = text "100"; version = 1 };
-          gotten = refl;
-          name = text "EXCAS";
-          version = text "1";
-          option = text "KEEPTTL";
-          decoded = refl;
-          excas = refl;
-          same-version = refl;
-          keepttl = refl;
-        }),
+        (λ z. swap 1 _ _ "100" 1 (text "EXCAS") (text "1") (text "KEEPTTL") refl refl refl refl refl),
         (
           (λ z. refl),
-          (refl, record { name = text "EXGET"; options = []; decoded = refl; exget = refl }),
-          (
-            (λ z. refl),
-            (λ z. record {
-              got = record { text = text "1100"; version = 2 };
-              gotten = refl;
-              name = text "EXCAS";
-              version = text "2";
-              option = text "KEEPTTL";
-              decoded = refl;
-              excas = refl;
-              same-version = refl;
-              keepttl = refl;
-            }),
-            tt,
-          ),
+          (refl, get _ (text "EXGET") [] refl refl),
+          ((λ z. refl), (λ z. swap 2 _ _ "1100" 2 (text "EXCAS") (text "2") (text "KEEPTTL") refl refl refl refl refl), tt),
         ),
       ),
     ) in

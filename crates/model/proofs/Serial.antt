@@ -15,11 +15,11 @@ use Rattle.model.specs.Bytes.{text, uppers, part, padded, written, littl
 use Rattle.model.specs.Checked.{Checked, refuse, ok, check, given, _>>=_, _>>_}
 use Rattle.model.specs.Number.{natText, versionLimit}
 use Rattle.model.specs.Table.{Form, form128, Record, Slot, empty, used, Found, recordSize, keyLimit, tailSize, useAt, keyAt, keyLengthAt, valueLengthAt, versionAt, expiryAt, valueAt, recordBytes, slotBytes, tableBytes, recordAt, distinct, live, ahead, findLive}
-use Rattle.model.specs.Resp.{arrayMark, integerMark, line, bulkBytes, decode, Reply, replyBytes, scalarBytes, took}
+use Rattle.model.specs.Resp.{arrayMark, integerMark, line, bulkBytes, decode, Scalar, simple, bulk, Reply, array, replyBytes, scalarBytes, scalarsBytes, took}
 use Rattle.model.specs.Command.{Command, exget, excas, keep, wordAt, parse}
 use Rattle.model.specs.Execute.{Effect, answer, store, number, getReply, swapReply, staleReply, oneHigher, swapping, write, onLive, minusOne, executeOn, keyOf, execute}
 use Rattle.model.specs.Call.{Outcome, errorReply, untouched, replied, effectOn, call}
-use Rattle.model.specs.History.{Label, outside, reads, writes, Event, Entry, run, final, replyOf, Got, gotOf, isOk, isStale, gotAt, gotBy, overtakenAt, overtaken, committedAt, committed}
+use Rattle.model.specs.History.{Label, outside, reads, writes, Event, Entry, run, final, replyOf, Got, gotOf, begins, arrayBegins, isOk, isStale, gotAt, gotBy, overtakenAt, overtaken, committedAt, committed}
 use Rattle.model.specs.Serializable.{serialWrite, serialStep, serialExecution, Holds, Elsewhere, Reads, Writes, Labelled, LiveThen, Lawful, Answered, AllAnswered, Serial, Serializable}
 use Rattle.model.proofs.Basics.{never, some-eq, none-some, at-set-other, at-set-same, at-length}
 use Rattle.model.proofs.Numbers.{readVersion-below}
@@ -79,36 +79,33 @@ unfolding replyBytes
 got-record true r hv hn = got-array 3 r (scalarBytes (number (r .flags)) ++ []) (omega arith) hv hn
 got-record false r hv hn = got-array 2 r [] (omega arith) hv hn
 
-swap-ok : (n : ℕ) → isOk (replyBytes (swapReply n)) ≡ true
-unfolding replyBytes natText
-swap-ok n = refl
+-- an array begins with its first element's bytes
+array-begins : (w : List ℕ) (xs : List Scalar) → length xs < 10 ^ 20 → arrayBegins w (replyBytes (array xs)) ≡ begins w (scalarsBytes xs)
+unfolding replyBytes arrayBegins
+array-begins w xs h = rw (readLine-line arrayMark (length xs) (scalarsBytes xs) h)
 
-swap-not-stale : (n : ℕ) → isStale (replyBytes (swapReply n)) ≡ false
-unfolding replyBytes natText
-swap-not-stale n = refl
+swap-begins : (w : List ℕ) (n : ℕ) (t b : List ℕ)
+    → arrayBegins w (take (replied 0 (swapReply n) t b .length) (replied 0 (swapReply n) t b .reply)) ≡ begins w (text "+OK\r\n+\r\n" ++ (scalarBytes (number n) ++ []))
+swap-begins w n t b =
+    ap (arrayBegins w) (reply-of 0 (swapReply n) t b) ∙ array-begins w (simple (text "OK") ∷ simple [] ∷ number n ∷ []) (omega arith)
 
-stale-stale : (r : Record) → isStale (replyBytes (staleReply r)) ≡ true
-unfolding replyBytes natText
-stale-stale r = refl
-
-stale-not-ok : (r : Record) → isOk (replyBytes (staleReply r)) ≡ false
-unfolding replyBytes natText
-stale-not-ok r = refl
-
-error-not-ok : (n : ℕ) → isOk (replyBytes (errorReply n)) ≡ false
-unfolding replyBytes
-error-not-ok n = refl
+stale-begins : (w : List ℕ) (r : Record) (t b : List ℕ)
+    → arrayBegins w (take (replied 0 (staleReply r) t b .length) (replied 0 (staleReply r) t b .reply))
+    ≡ begins w (text "+ERR update version is stale\r\n" ++ (bulkBytes (r .value) ++ (scalarBytes (number (r .version)) ++ [])))
+stale-begins w r t b =
+    ap (arrayBegins w) (reply-of 0 (staleReply r) t b)
+    ∙ array-begins w (simple (text "ERR update version is stale") ∷ bulk (r .value) ∷ number (r .version) ∷ []) (omega arith)
 
 -- ---- how many were answered OK since a transaction's EXGET
 
-abbrev sinceAt : ℕ → Label → List ℕ → ℕ → ℕ
-sinceAt t outside b n = n
-sinceAt t (reads u) b n = cond (eqb u t) 0 n
-sinceAt t (writes u) b n = cond (isOk b) (suc n) n
+abbrev sinceAt : ℕ → Label → Entry → ℕ → ℕ
+sinceAt t outside x n = n
+sinceAt t (reads u) x n = cond (eqb u t) 0 n
+sinceAt t (writes u) x n = cond (isOk x) (suc n) n
 
 abbrev since : ℕ → List Entry → ℕ
 since t [] = 0
-since t (x ∷ past) = sinceAt t (x .event .label) (replyOf x) (since t past)
+since t (x ∷ past) = sinceAt t (x .event .label) x (since t past)
 
 overtaken-since : (t : ℕ) (past : List Entry) → overtaken t past ≡ not (eqb (since t past) 0)
 overtaken-since t [] = refl
@@ -123,10 +120,10 @@ overtaken-since t (x ∷ past) = go (x .event .label) (overtaken-since t past)
     count false h = h
 
     go : (l : Label) → overtaken t past ≡ not (eqb (since t past) 0)
-        → overtakenAt t l (replyOf x) (overtaken t past) ≡ not (eqb (sinceAt t l (replyOf x) (since t past)) 0)
+        → overtakenAt t l x (overtaken t past) ≡ not (eqb (sinceAt t l x (since t past)) 0)
     go outside h = h
     go (reads u) h = pick (eqb u t) h
-    go (writes u) h = count (isOk (replyOf x)) h
+    go (writes u) h = count (isOk x) h
 
 -- what a transaction got is n versions older than the record, or the record's own
 record Older (g : Got) (n : ℕ) (r : Record) : Type 0 where
@@ -202,7 +199,7 @@ module _ (f : Form) (w : Roomy f) (i : ℕ) (k : List ℕ) (update : ℕ → Lis
     Shown l o =
         LiveThen f i k update (entry l o) → Labelled f i k update past (entry l o) l → Lawful f i k update (entry l o ∷ past) (run (call f) (o .table) es)
         → (recordAt f i (final (o .table) (run (call f) (o .table) es))
-        ≡ serialExecution f update (committedAt l (replyOf (entry l o)) (committed (run (call f) (o .table) es))) (recordAt f i t))
+        ≡ serialExecution f update (committedAt l (entry l o) (committed (run (call f) (o .table) es))) (recordAt f i t))
         × (Answered past (entry l o) l × AllAnswered (entry l o ∷ past) (run (call f) (o .table) es))
 
     -- a call of no transaction is forgotten
@@ -217,7 +214,7 @@ module _ (f : Form) (w : Roomy f) (i : ℕ) (k : List ℕ) (update : ℕ → Lis
         go true q = none-some g q
         go false q = q
 
-    lost-inv : (u : ℕ) (o : Outcome) → isOk (replyOf (entry (writes u) o)) ≡ false → Inv (entry (writes u) o ∷ past) t
+    lost-inv : (u : ℕ) (o : Outcome) → isOk (entry (writes u) o) ≡ false → Inv (entry (writes u) o ∷ past) t
     lost-inv u o lost ss g =
         let h = inv ss g in
         record {
@@ -228,14 +225,15 @@ module _ (f : Form) (w : Roomy f) (i : ℕ) (k : List ℕ) (update : ℕ → Lis
         }
 
     -- a refused call changes nothing
-    refused : (l : Label) (n len : ℕ) (r : List ℕ) → 1 ≤ n → isOk (take len r) ≡ false → Shown l (record { number = n; length = len; reply = r; table = t })
-    refused outside n len r h lost lv fits law =
+    refused : (l : Label) (n len : ℕ) (r : List ℕ) → 1 ≤ n → Shown l (record { number = n; length = len; reply = r; table = t })
+    refused outside n len r h lv fits law =
         let q = ih t (entry outside (record { number = n; length = len; reply = r; table = t }) ∷ past) (outside-inv _ t inv) law in
         (q .0, (tt, q .1))
-    refused (reads u) n len r h lost lv fits law = absurd (omega (arith, fits .0))
-    refused (writes u) n len r h lost lv fits law =
-        let q = ih t (entry (writes u) (record { number = n; length = len; reply = r; table = t }) ∷ past) (lost-inv u _ lost) law in
-        (rw lost (q .0), ((λ z. absurd (omega arith)), q .1))
+    refused (reads u) n len r h lv fits law = absurd (omega (arith, fits .0))
+    refused (writes u) n len r h lv fits law =
+        let none-zero : eqb n 0 ≡ false = ne-eqb n 0 (λ z. omega arith) in
+        let q = ih t (entry (writes u) (record { number = n; length = len; reply = r; table = t }) ∷ past) (lost-inv u _ (rw none-zero)) law in
+        (rw none-zero (q .0), ((λ z. absurd (omega arith)), q .1))
 
     module _ (ss : List Slot) (g : Good f t ss) (ws : List (List ℕ)) (dec : decode c ≡ some ws) where
       was : WasTable f t ss
@@ -261,7 +259,7 @@ module _ (f : Form) (w : Roomy f) (i : ℕ) (k : List ℕ) (update : ℕ → Lis
       found lv = find-live now k ss i (held .rec) (g .keys) (held .slot) (held .key) (is-live lv)
 
       refusal : (l : Label) (n : ℕ) → 1 ≤ n → Shown l (replied n (errorReply n) t b)
-      refusal l n h = refused l n (length (replyBytes (errorReply n))) _ h (ap isOk (reply-of n (errorReply n) t b) ∙ error-not-ok n)
+      refusal l n h = refused l n (length (replyBytes (errorReply n))) _ h
 
       -- ---- a call of no transaction
 
@@ -326,13 +324,11 @@ module _ (f : Form) (w : Roomy f) (i : ℕ) (k : List ℕ) (update : ℕ → Lis
 
       stale : (u : ℕ) → eqb (since u past) 0 ≡ false → Shown (writes u) (replied 0 (staleReply (held .rec)) t b)
       stale u behind lv fits law =
-          let reply = reply-of 0 (staleReply (held .rec)) t b in
-          let lost = ap isOk reply ∙ stale-not-ok (held .rec) in
+          let lost = stale-begins (text "+OK\r\n") (held .rec) t b in
+          let told = stale-begins (text "+ERR update version is stale\r\n") (held .rec) t b in
           let q = ih t _ (lost-inv u (replied 0 (staleReply (held .rec)) t b) lost) law in
-          let over : overtaken u past ≡ true = overtaken-since u past ∙ ap not behind in (
-            rw lost (q .0),
-            ((λ z. (ap isStale reply ∙ (stale-stale (held .rec) ∙ sym over), lost ∙ ap not (sym over))), q .1),
-          )
+          let over : overtaken u past ≡ true = overtaken-since u past ∙ ap not behind in
+          (rw lost (q .0), ((λ z. (told ∙ sym over, lost ∙ ap not (sym over))), q .1))
 
       module _ (u : ℕ) (v : List ℕ) (made : v ≡ update u (held .rec .value)) (first : eqb (since u past) 0 ≡ true) (fits-v : length v ≤ f .valueLimit)
           (rises : suc (held .rec .version) < versionLimit) where
@@ -369,15 +365,15 @@ module _ (f : Form) (w : Roomy f) (i : ℕ) (k : List ℕ) (update : ℕ → Lis
 
         won : Shown (writes u) (replied 0 (swapReply (suc (held .rec .version))) new-table b)
         won lv fits law =
-            let reply = reply-of 0 (swapReply (suc (held .rec .version))) new-table b in
-            let yes-ok = ap isOk reply ∙ swap-ok (suc (held .rec .version)) in
+            let yes-ok = swap-begins (text "+OK\r\n") (suc (held .rec .version)) new-table b in
+            let not-stale = swap-begins (text "+ERR update version is stale\r\n") (suc (held .rec .version)) new-table b in
             let q = ih new-table _ (won-inv yes-ok) law in
             let ahead-of : overtaken u past ≡ false = overtaken-since u past ∙ ap not first in (
               rw yes-ok (q .0 ∙ ap (serialExecution f update (committed (run (call f) new-table es))) new-bytes),
-              ((λ z. (ap isStale reply ∙ (swap-not-stale (suc (held .rec .version)) ∙ sym ahead-of), yes-ok ∙ ap not (sym ahead-of))), q .1),
+              ((λ z. (not-stale ∙ sym ahead-of, yes-ok ∙ ap not (sym ahead-of))), q .1),
             )
           where
-            won-inv : isOk (replyOf (entry (writes u) (replied 0 (swapReply (suc (held .rec .version))) new-table b))) ≡ true
+            won-inv : isOk (entry (writes u) (replied 0 (swapReply (suc (held .rec .version))) new-table b)) ≡ true
                 → Inv (entry (writes u) (replied 0 (swapReply (suc (held .rec .version))) new-table b) ∷ past) new-table
             won-inv yes-ok new q =
                 let same : set ss i (used new-record) ≡ new = some-eq (sym (readTable-set f t ss i (used new-record) was new-in-range) ∙ q .read) in
@@ -464,7 +460,7 @@ module _ (f : Form) (w : Roomy f) (i : ℕ) (k : List ℕ) (update : ℕ → Lis
 
     one-call : (l : Label) → Shown l (call f t now c b)
     one-call l =
-        by-call f t now c b (Shown l) (λ n h. refused l n 0 b (omega (arith, h .least)) refl)
+        by-call f t now c b (Shown l) (λ n h. refused l n 0 b (omega (arith, h .least)))
         (λ ss g ws dec. on-parsed ss g ws dec l (parse f now ws) refl (parse-known f now ws))
 
   all-calls : (es : List Event) (t : List ℕ) (past : List Entry) → Inv past t → Lawful f i k update past (run (call f) t es) → Claimed past t es

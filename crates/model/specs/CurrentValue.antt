@@ -1,7 +1,7 @@
--- The value at the key after an EXGET or EXCAS, as a part of the table or of the command. Document 01's word is the standing value.
+-- The value at the key after an EXGET or EXCAS, as a part of the table or of the command. Document 01's term is the standing value.
 use Prim.Native.Nat.{ℕ, _+_, _*_}
 use mathlib.Core.Bool.{Bool, true, false, cond}
-use mathlib.Core.List.{List, []}
+use mathlib.Core.List.{List}
 use mathlib.Core.Option.{Option, none, some}
 use lib.ListN.{length, take}
 use lib.Dec.{leb, eqb}
@@ -25,11 +25,25 @@ isShown nothing = false
 isShown (inTable a n) = true
 isShown (inCommand a n) = true
 
--- its bytes; where nothing is shown, the table's first zero bytes, which are none
+-- whether it is a part of the command, where it begins, and its length; where nothing is shown, the empty part at the table's start
+abbrev pub isInCommand : Shown → Bool
+isInCommand nothing = false
+isInCommand (inTable a n) = false
+isInCommand (inCommand a n) = true
+
+abbrev pub startOf : Shown → ℕ
+startOf nothing = 0
+startOf (inTable a n) = a
+startOf (inCommand a n) = a
+
+abbrev pub lengthOf : Shown → ℕ
+lengthOf nothing = 0
+lengthOf (inTable a n) = n
+lengthOf (inCommand a n) = n
+
+-- its bytes
 abbrev pub shownBytes : (table command : List ℕ) → Shown → List ℕ
-shownBytes t c nothing = []
-shownBytes t c (inTable a n) = part a n t
-shownBytes t c (inCommand a n) = part a n c
+shownBytes t c s = part (startOf s) (lengthOf s) (cond (isInCommand s) c t)
 
 -- the place in a command of the bytes of word i
 unfoldable pub wordStart : ℕ → List (List ℕ) → ℕ

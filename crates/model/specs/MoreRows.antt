@@ -1,5 +1,5 @@
--- Further rows in the manner of the bench sheet, each on a table of its own: document 01's "Also" lines, and a row for each option and number
--- that the sheet leaves out.
+-- Further rows in the manner of the bench sheet, each on a table of its own: document 01's "Also" lines, options, answers and refusals that
+-- the sheet leaves out, and current values.
 use Prim.Native.Nat.{ℕ, _-_, _/_, _%_}
 use Prim.Native.String.{String}
 use mathlib.Core.Path.{_≡_}
@@ -8,6 +8,7 @@ use lib.ListN.{length, replicate, drop}
 use Rattle.model.specs.Bytes.{text}
 use Rattle.model.specs.Resp.{encode}
 use Rattle.model.specs.Call.{Outcome, Store}
+use Rattle.model.specs.CurrentValue.{Shown, nothing, inTable, inCommand}
 use Rattle.model.specs.BenchSheet.{zeros, buffer}
 
 -- ---- records, written out
@@ -84,6 +85,16 @@ others =
     ∷ case (zeros 128) 1000 ("EXSETVER" ∷ "foo" ∷ "4" ∷ []) 0 ":0\r\n" (zeros 128)
     ∷ case (zeros 128) 1000 ("EXSET" ∷ "foo" ∷ "a" ∷ "VER" ∷ "7" ∷ []) 0 "+OK\r\n" (foo 1 "a")
     ∷ case (foo 4 "a") 1000 ("DEL" ∷ "foo" ∷ []) 0 ":1\r\n" (zeros 128)
+    ∷ case (zeros 128) 1000 ("EXCAD" ∷ "foo" ∷ "4" ∷ []) 0 ":-1\r\n" (zeros 128)
+    ∷ case (zeros 128) 1000 ("EXGAE" ∷ "foo" ∷ "EX" ∷ "5" ∷ []) 0 "$-1\r\n" (zeros 128)
+    ∷ case (zeros 128) 1000 ("DEL" ∷ "foo" ∷ []) 0 ":0\r\n" (zeros 128)
+    ∷ case (zeros 128) 1000 ("EXAPPEND" ∷ "foo" ∷ "a" ∷ []) 0 ":1\r\n" (foo 1 "a")
+    ∷ case (zeros 128) 1000 ("EXPREPEND" ∷ "foo" ∷ "a" ∷ "ABS" ∷ "9" ∷ []) 0 ":9\r\n" (foo 9 "a")
+    ∷ case (zeros 128) 1000 ("EXINCRBY" ∷ "foo" ∷ "-7" ∷ "EX" ∷ "2" ∷ []) 0 ":-7\r\n" (cell 0 (small 1) (small 3000) (text "foo") (text "-7"))
+    ∷ case (foo 4 "a") 1000 ("EXCAS" ∷ "foo" ∷ "c" ∷ "4" ∷ "PX" ∷ "2" ∷ []) 0 "*3\r\n+OK\r\n+\r\n:5\r\n" (cell 0 (small 5) (small 1002) (text "foo") (text "c"))
+    ∷ case (foo 4 "1") 1000 ("EXINCRBY" ∷ "foo" ∷ "1" ∷ "VER" ∷ "3" ∷ []) 12 "-ERR update version is stale\r\n" (foo 4 "1")
+    ∷ case (foo 4 "a") 1000 ("EXAPPEND" ∷ "foo" ∷ "b" ∷ "VER" ∷ "3" ∷ []) 12 "-ERR update version is stale\r\n" (foo 4 "a")
+    ∷ case (foo 4 "a") 1000 ("EXSET" ∷ "foo" ∷ []) 6 "-ERR wrong number of arguments\r\n" (foo 4 "a")
     ∷ case (foo 4 "a") 1000 ("GET" ∷ "foo" ∷ []) 5 "-ERR unknown command\r\n" (foo 4 "a")
     ∷ case (foo 4 "a") 1000 ("DEL" ∷ "foo" ∷ "bar" ∷ []) 6 "-ERR wrong number of arguments\r\n" (foo 4 "a")
     ∷ case (foo 4 "a") 1000 ("EXGET" ∷ "" ∷ []) 7 "-ERR string exceeds maximum allowed size\r\n" (foo 4 "a")
@@ -141,6 +152,9 @@ raws =
     raw (foo 1 "a") 4611686018427387904 get 128 0
     ∷ raw (foo 1 "a") 4611686018427387905 get 128 2
     ∷ raw (foo 1 "a") 1 get 127 3
+    ∷ raw (zeros 129) 4611686018427387905 (text "x") 0 1
+    ∷ raw (foo 1 "a") 4611686018427387905 (text "x") 0 2
+    ∷ raw (foo 1 "a") 1 (text "x") 0 3
     ∷ raw (foo 1 "a") 1 (long "480" 480) 128 7
     ∷ raw (foo 1 "a") 1 (long "481" 481) 128 4
     ∷ raw (foo 1 "a") 1 (manyWords "16" 16) 128 5
@@ -172,3 +186,32 @@ raws =
 -- the store comes to each row's number
 abbrev pub Numbers : Store → List Raw → Type 0
 Numbers s rs = map (λ r. s (r .table) (r .time) (r .command) (zeros (r .room)) .number) rs ≡ map (λ r. r .number) rs
+
+-- ---- current values
+
+-- a table, a time, the words of a command, and what is shown
+pub record View : Type 0 where
+  pub table : List ℕ
+  pub time : ℕ
+  pub words : List (List ℕ)
+  pub shown : Shown
+
+abbrev pub view : List ℕ → ℕ → List String → Shown → View
+view t now ws s = record { table = t; time = now; words = map text ws; shown = s }
+
+-- a value begins at byte 48 of its record, and word 2 of these commands at byte 28
+abbrev pub views : List View
+views =
+    view (foo 4 "abc") 1000 ("EXGET" ∷ "foo" ∷ []) (inTable 48 3)
+    ∷ view (zeros 128 ++ foo 4 "abc") 1000 ("EXGET" ∷ "foo" ∷ []) (inTable 176 3)
+    ∷ view (foo 4 "") 1000 ("EXGET" ∷ "foo" ∷ []) (inTable 48 0)
+    ∷ view (foo 4 "abc") 1000 ("EXCAS" ∷ "foo" ∷ "de" ∷ "4" ∷ []) (inCommand 28 2)
+    ∷ view (foo 4 "abc") 1000 ("EXCAS" ∷ "foo" ∷ "" ∷ "4" ∷ "PXAT" ∷ "1" ∷ []) (inCommand 28 0)
+    ∷ view (foo 4 "abc") 1000 ("EXCAS" ∷ "foo" ∷ "de" ∷ "3" ∷ []) (inTable 48 3)
+    ∷ view (cell 0 top (small 0) (text "foo") (text "a")) 1000 ("EXCAS" ∷ "foo" ∷ "de" ∷ "9223372036854775807" ∷ []) nothing
+    ∷ view (foo 4 "abc") 1000 ("EXCAS" ∷ "foo" ∷ "de" ∷ "x" ∷ []) nothing
+    ∷ view (foo 4 "abc") 1000 ("EXSET" ∷ "foo" ∷ "de" ∷ []) nothing
+    ∷ view (foo 4 "abc") 1000 ("EXGET" ∷ "bar" ∷ []) nothing
+    ∷ view (cell 0 (small 1) (small 1000) (text "foo") (text "a")) 1000 ("EXGET" ∷ "foo" ∷ []) nothing
+    ∷ view (zeros 127) 1000 ("EXGET" ∷ "foo" ∷ []) nothing
+    ∷ []

@@ -1,4 +1,5 @@
--- Demand 3: after any interleaving of transactions on a record it holds what a serial execution of those answered OK leaves.
+-- Demand 3: after any interleaving of transactions on a record it holds what a serial execution of those answered OK leaves, and each is
+-- answered stale exactly if another overtook it.
 use Prim.Native.Nat.{ℕ, suc, _*_}
 use mathlib.Core.Path.{_≡_}
 use mathlib.Core.Logic.{_≢_}
@@ -12,7 +13,7 @@ use Rattle.model.specs.Table.{Form, useAt, keyLengthAt, valueLengthAt, v
 use Rattle.model.specs.Resp.{decode}
 use Rattle.model.specs.Command.{wordAt}
 use Rattle.model.specs.Call.{Store}
-use Rattle.model.specs.History.{Label, outside, reads, writes, Event, Entry, run, final, replyOf, Got, isOk, isStale, gotBy, overtaken, committed}
+use Rattle.model.specs.History.{Label, outside, reads, writes, Event, Entry, run, final, Got, isOk, isStale, gotBy, overtaken, committed}
 
 -- ---- the serial execution, on the bytes of one record; it knows nothing of a store. Document 01's word is plain run.
 
@@ -24,7 +25,7 @@ module _ (f : Form) where
       (written versionAt (littleEndian 8 (suc (fromLittleEndian (part versionAt 8 b))))
       (written valueLengthAt (length v ∷ []) b))
 
-  -- a transaction makes its new text from the text that stands there
+  -- a transaction makes its new text from the record's own; `update` is document 01's way to make a new text
   abbrev pub serialStep : (update : List ℕ → List ℕ) → List ℕ → List ℕ
   serialStep update b = serialWrite (update (part valueAt (getD b valueLengthAt 0) b)) b
 
@@ -87,7 +88,7 @@ abbrev pub Answered : (past : List Entry) → Entry → Label → Type 0
 Answered past x outside = Unit {0}
 Answered past x (reads t) = Unit {0}
 Answered past x (writes t) =
-    x .outcome .number ≡ 0 → (isStale (replyOf x) ≡ overtaken t past) × (isOk (replyOf x) ≡ not (overtaken t past))
+    x .outcome .number ≡ 0 → (isStale x ≡ overtaken t past) × (isOk x ≡ not (overtaken t past))
 
 abbrev pub AllAnswered : (past : List Entry) → List Entry → Type 0
 AllAnswered past [] = Unit {0}
