@@ -1,0 +1,8 @@
+-- Laws of the reader of commands. Callers use those of Commands: begin, next-word, no-word, bulks-length, count-some, count-not.
+pub mod Optional
+pub mod Places
+pub mod Digits
+pub mod Lines
+pub mod Words
+pub mod Commands
+pub mod Vectors

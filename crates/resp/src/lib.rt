@@ -1,0 +1,191 @@
+// The words of a command in RESP2, taken from a borrowed slice and a place in it.
+ghost use mathlib.Core.Path.{_≡_};
+ghost use Prim.Native.Nat.{_≤_, _<_};
+ghost use lib.ListN.{length, drop};
+ghost use Rattle.model.specs.Resp.{commandLimit, decode};
+ghost use Rattle.resp.specs.Words.{digitAt, digitsFrom, numberFrom, endsLine, lineFrom, wordFrom, hasWords, countFrom, firstWord};
+
+// A line's number, and the place after the line.
+pub enum Line {
+    Number { value: usize, next: usize },
+    Malformed,
+}
+
+// Where a word's bytes begin and end, and the place after its CR LF.
+pub enum Word {
+    At {
+        start: usize,
+        end: usize,
+        next: usize,
+    },
+    Malformed,
+}
+
+// The number of words of a whole command.
+pub enum Count {
+    Words(usize),
+    Malformed,
+}
+
+// Whether a digit stands at place `at`.
+fn digit_at(s: &[u8], at: usize) -> bool
+    ensures { λ r. ⌜ r ≡ digitAt (now (s .entry)) at ⌝ }
+{
+    if s.len() <= at {
+        return false;
+    }
+    let c = s[at];
+    if c < 48 {
+        return false;
+    }
+    c <= 57
+}
+
+// The number of the digits at place `at`, up to 512, and the place after them; no digits are 0.
+fn read_digits(s: &[u8], at: usize) -> Line
+    requires { ⌜ at ≤ length (now s) ⌝ }
+    ensures { λ r. ⌜ r ≡ digitsFrom 0 (drop at (now (s .entry))) at ⌝ }
+{
+    let mut value: usize = 0;
+    let mut next = at;
+    while digit_at(s, next) {
+        value = 10 * value + (s[next] - 48) as usize;
+        if 512 < value {
+            return Line::Malformed;
+        }
+        next += 1;
+    }
+    Line::Number { value, next }
+}
+
+// The number at place `at`, up to 512 and without extra zeros, and the place after it.
+fn read_number(s: &[u8], at: usize) -> Line
+    requires { ⌜ at ≤ length (now s) ⌝ }
+    ensures { λ r. ⌜ r ≡ numberFrom (drop at (now (s .entry))) at ⌝ }
+{
+    let Line::Number { value, next } = read_digits(s, at) else {
+        return Line::Malformed;
+    };
+    let count = next - at;
+    if count == 0 {
+        return Line::Malformed;
+    }
+    if s[at] == 48 {
+        if 1 < count {
+            return Line::Malformed;
+        }
+    }
+    Line::Number { value, next }
+}
+
+// Whether CR LF stands at place `at`.
+fn ends_line(s: &[u8], at: usize) -> bool
+    ensures { λ r. ⌜ r ≡ endsLine (drop at (now (s .entry))) ⌝ }
+{
+    if s.len() <= at {
+        return false;
+    }
+    if s[at] != 13 {
+        return false;
+    }
+    let after = at + 1;
+    if s.len() <= after {
+        return false;
+    }
+    s[after] == 10
+}
+
+// The line with mark `mark` at place `at`: its number, up to 512, and the place after it.
+pub fn read_line(s: &[u8], at: usize, mark: u8) -> Line
+    ensures { λ r. ⌜ r ≡ lineFrom mark (now (s .entry)) at ⌝ }
+{
+    if s.len() <= at {
+        return Line::Malformed;
+    }
+    if s[at] != mark {
+        return Line::Malformed;
+    }
+    let Line::Number { value, next } = read_number(s, at + 1) else {
+        return Line::Malformed;
+    };
+    if ends_line(s, next) {
+        return Line::Number {
+            value,
+            next: next + 2,
+        };
+    }
+    Line::Malformed
+}
+
+// The bulk string at place `at`: where its bytes begin and end, and the place after it.
+pub fn read_word(s: &[u8], at: usize) -> Word
+    requires { ⌜ length (now s) ≤ commandLimit ⌝ }
+    ensures { λ r. ⌜ r ≡ wordFrom (now (s .entry)) at ⌝ }
+{
+    let Line::Number { value, next } = read_line(s, at, b'$') else {
+        return Word::Malformed;
+    };
+    let end = next + value;
+    if ends_line(s, end) {
+        return Word::At {
+            start: next,
+            end,
+            next: end + 2,
+        };
+    }
+    Word::Malformed
+}
+
+// Whether `n` bulk strings stand from place `at` on, and nothing after them.
+fn has_words(s: &[u8], at: usize, n: usize) -> bool
+    requires { ⌜ length (now s) ≤ commandLimit ⌝ }
+    ensures { λ r. ⌜ r ≡ hasWords n (now (s .entry)) at ⌝ }
+{
+    let mut left = n;
+    let mut place = at;
+    while 0 < left {
+        let Word::At {
+            start: _,
+            end: _,
+            next,
+        } = read_word(s, place)
+        else {
+            return false;
+        };
+        place = next;
+        left -= 1;
+    }
+    s.len() <= place
+}
+
+// The number of words of a whole command, with nothing after the last.
+pub fn count_words(s: &[u8]) -> Count
+    ensures { λ r. ⌜ r ≡ countFrom (decode (now (s .entry))) ⌝ }
+{
+    if 512 < s.len() {
+        return Count::Malformed;
+    }
+    let Line::Number { value, next } = read_line(s, 0, b'*') else {
+        return Count::Malformed;
+    };
+    if value < 1 {
+        return Count::Malformed;
+    }
+    if 16 < value {
+        return Count::Malformed;
+    }
+    if has_words(s, next, value) {
+        return Count::Words(value);
+    }
+    Count::Malformed
+}
+
+// The place of the first word of a command that `count_words` accepts.
+pub fn first_word(s: &[u8]) -> usize
+    ensures { λ r. ⌜ r ≡ firstWord (now (s .entry)) ⌝ }
+{
+    match read_line(s, 0, b'*') {
+        Line::Number { value: _, next } => next,
+        Line::Malformed => 0,
+    }
+}
