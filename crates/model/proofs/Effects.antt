@@ -16,7 +16,7 @@ use Rattle.model.specs.Number.{versionLimit, flagsLimit, isSigned, readS
 use Rattle.model.specs.Table.{Form, Record, Slot, empty, used, timeLimit, keyLimit, distinct, live, Found, findLive, slotFor}
 use Rattle.model.specs.Resp.{Reply, one, nil}
 use Rattle.model.specs.Command.{Change, raise, set, Expire, clear, keep, at, Command, exset, exget, exsetver, exincrby, excas, excad, exjoin, exgae, del}
-use Rattle.model.specs.Execute.{Effect, answer, store, agrees, oneHigher, versionAfter, expiryAfter, flagsAfter, New, counter, notBelow, notAbove, floored, sum, counted, Write, setting, counting, swapping, joining, valueIn, placeOf, write, allowed, orNil, onLive, executeOn, keyOf, execute, number, setReply, getReply, countReply, swapReply, staleReply}
+use Rattle.model.specs.Execute.{Effect, answer, store, agrees, oneHigher, versionAfter, expiryAfter, flagsAfter, New, counter, notBelow, notAbove, floored, sum, counted, Write, setting, counting, swapping, joining, valueIn, placeOf, write, allowed, orNil, onLive, withVersion, withExpiry, executeOn, keyOf, execute, number, setReply, getReply, countReply, swapReply, staleReply}
 use Rattle.model.proofs.Basics.{and-left}
 use Rattle.model.proofs.Records.{InRange, Kept}
 use Rattle.model.proofs.Tables.{All, all-at}
@@ -65,6 +65,18 @@ module _ (f : Form) where
   flags-after (some g) o h q = h
   flags-after none none h q = omega arith
   flags-after none (some o) h q = q .flags-to
+
+-- a record in range with another version and expiry
+renumbered : (f : Form) (r : Record) (n x : ℕ) → InRange f r → n < versionLimit → x ≤ timeLimit
+    → InRange f (record { key = r .key; value = r .value; flags = r .flags; version = n; expiry = x })
+renumbered f r n x h hn hx = record {
+  key-from = h .key-from;
+  key-to = h .key-to;
+  value-to = h .value-to;
+  flags-to = h .flags-to;
+  version-to = hn;
+  expiry-to = hx;
+}
 
 -- ---- the commands, over slots in range with distinct keys
 
@@ -165,18 +177,8 @@ module _ (f : Form) (w : Roomy f) (now : ℕ) (ss : List Slot) (hk : All (Kept f
     fine-on o h (exget key b) q a = on-live o h (one nil) _ (nil-fits f w) λ o e h. get-fits f w b (o .rec) (found-ok k o h)
     fine-on o h (exsetver key n) q a =
         on-live o h (one (number 0)) _ (number-fits f w 0 (omega arith)) λ o e h.
-        let old = found-ok k o h in (
-          rewritten o h _ refl
-              (record {
-                key-from = old .key-from;
-                key-to = old .key-to;
-                value-to = old .value-to;
-                flags-to = old .flags-to;
-                version-to = a;
-                expiry-to = old .expiry-to;
-              }),
-          number-fits f w 1 (omega arith),
-        )
+        let old = found-ok k o h in
+        (rewritten o h (withVersion n (o .rec)) refl (renumbered f (o .rec) n (o .rec .expiry) old a (old .expiry-to)), number-fits f w 1 (omega arith))
     fine-on o h (exincrby key z p c e min max nn b) q a =
         subst (λ (y : List ℕ). Comes Executing (Fine k) (executeOn f now ss o (exincrby y z p c e min max nn b))) (sym q)
         (or-nil (allowed p o) _ (fine-write o h (counting z c e min max nn b) (a .0) (a .1) tt (counted-fits z min max nn b (valueIn o))))
@@ -198,18 +200,8 @@ module _ (f : Form) (w : Roomy f) (now : ℕ) (ss : List Slot) (hk : All (Kept f
         (or-nil (allowed p o) _ (fine-write o h (joining e v c) a tt tt (number-fits f w)))
     fine-on o h (exgae key x) q a =
         on-live o h (one nil) _ (nil-fits f w) λ o e h.
-        let old = found-ok k o h in (
-          rewritten o h _ refl
-              (record {
-                key-from = old .key-from;
-                key-to = old .key-to;
-                value-to = old .value-to;
-                flags-to = old .flags-to;
-                version-to = old .version-to;
-                expiry-to = a;
-              }),
-          get-fits f w true (o .rec) old,
-        )
+        let old = found-ok k o h in
+        (rewritten o h (withExpiry x (o .rec)) refl (renumbered f (o .rec) (o .rec .version) x old (old .version-to) a), get-fits f w true (o .rec) old)
     fine-on o h (del key) q a = on-live o h (one (number 0)) _ (number-fits f w 0 (omega arith)) λ o e h. (emptied o h, number-fits f w 1 (omega arith))
 
   pub execute-fine : (k : List ℕ) (c : Command) → Known f k c → Comes Executing (Fine k) (execute f now ss c)

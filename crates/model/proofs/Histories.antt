@@ -1,7 +1,7 @@
 -- Demand 3's premises are met by a worked history, so the claim is not empty; and two wrong stores do not meet the claim.
 use Prim.Native.Nat.{ℕ, suc, _+_}
 use Prim.Native.String.{String}
-use mathlib.Core.Path.{_≡_, refl, ap}
+use mathlib.Core.Path.{_≡_, refl, sym, ap, subst}
 use mathlib.Core.List.{List, [], _∷_, map}
 use mathlib.Core.Option.{some}
 use native.Mathlib.Omega.{arith}
@@ -165,29 +165,26 @@ once =
     ∷ event (writes 1) 1001 ("EXCAS" ∷ "foo" ∷ "1100" ∷ "1" ∷ "KEEPTTL" ∷ [])
     ∷ []
 
--- the record keeps version 1, and the serial execution has 2
-pub writesNothing-not-serializable : Serializable form128 writesNothing → ⊥
+-- a store that only replies to these calls: the record keeps version 1, and the serial execution has 2
+only-replies : (s : Store) → run s start once ≡ run writesNothing start once → Serializable form128 s → ⊥
 unfolding computing
-writesNothing-not-serializable h =
-    let s = h 0 (text "foo") update start once (record { used = refl; key = refl }) (
+only-replies s e h =
+    let lawful : Lawful form128 0 (text "foo") update [] (run writesNothing start once) = (
       (λ z. refl),
       (refl, get _ (text "EXGET") [] refl refl),
       ((λ z. refl), (λ z. swap 1 _ _ "100" 1 (text "EXCAS") (text "1") (text "KEEPTTL") refl refl refl refl refl), tt),
     ) in
-    let e : _≡_ {A = ℕ} 1 2 = ap (λ (b : List ℕ). getD b versionAt 0) (s .bytes) in
+    let q = h 0 (text "foo") update start once (record { used = refl; key = refl }) (subst (Lawful form128 0 (text "foo") update []) (sym e) lawful) in
+    let z : _≡_ {A = ℕ} 1 2 = ap (λ (b : List ℕ). getD b versionAt 0) (subst (Serial form128 0 update start) e q .bytes) in
     omega arith
 
--- so does this one, which finds a table that is not empty
+pub writesNothing-not-serializable : Serializable form128 writesNothing → ⊥
+writesNothing-not-serializable = only-replies writesNothing refl
+
+-- this one finds a table that is not empty
 pub obeysFirst-not-serializable : Serializable form128 obeysFirst → ⊥
 unfolding computing
-obeysFirst-not-serializable h =
-    let s = h 0 (text "foo") update start once (record { used = refl; key = refl }) (
-      (λ z. refl),
-      (refl, get _ (text "EXGET") [] refl refl),
-      ((λ z. refl), (λ z. swap 1 _ _ "100" 1 (text "EXCAS") (text "1") (text "KEEPTTL") refl refl refl refl refl), tt),
-    ) in
-    let e : _≡_ {A = ℕ} 1 2 = ap (λ (b : List ℕ). getD b versionAt 0) (s .bytes) in
-    omega arith
+obeysFirst-not-serializable = only-replies obeysFirst refl
 
 -- the second EXCAS is answered OK and not obeyed: the record has version 2, and the serial execution 3
 pub obeysFirstSwap-not-serializable : Serializable form128 obeysFirstSwap → ⊥
