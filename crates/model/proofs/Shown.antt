@@ -70,34 +70,34 @@ part-of-take a n m l h len =
     ∙ (ap (take n) (drop-append-le a (take m l) (drop m l) (omega (arith, length-take-le m l len)))
     ∙ take-append-le n (drop a (take m l)) (drop m l) (omega (arith, length-take-le m l len, length-drop a (take m l)))))
 
--- ---- the value of an EXCAS is word 2
+-- ---- the value of a command that has one is word 2
 
-abbrev ValueWord : List (List ℕ) → Command → Type 0
-ValueWord ws (exset k v p c e g w) = Unit {0}
+abbrev pub ValueWord : List (List ℕ) → Command → Type 0
+ValueWord ws (exset k v p c e g w) = v ≡ wordAt 2 ws
 ValueWord ws (exget k w) = Unit {0}
 ValueWord ws (exsetver k n) = Unit {0}
 ValueWord ws (exincrby k z p c e min max nn w) = Unit {0}
 ValueWord ws (excas k v n e) = v ≡ wordAt 2 ws
 ValueWord ws (excad k n) = Unit {0}
-ValueWord ws (exjoin e k v p c) = Unit {0}
+ValueWord ws (exjoin e k v p c) = v ≡ wordAt 2 ws
 ValueWord ws (exgae k x) = Unit {0}
 ValueWord ws (del k) = Unit {0}
 
-value-word : (f : Form) (now : ℕ) (ws : List (List ℕ)) → Comes Parsing (ValueWord ws) (parse f now ws)
+pub value-word : (f : Form) (now : ℕ) (ws : List (List ℕ)) → Comes Parsing (ValueWord ws) (parse f now ws)
 unfolding parse
 value-word f now ws =
     by-given Parsing (ValueWord ws) 5 (look (uppers (wordAt 0 ws)) names) _ (omega arith) λ n h5.
     parse-named f now ws (ValueWord ws) n λ lo hi hv gs ht. built gs n
   where
     built : (gs : List Given) (n : Name) → ValueWord ws (build now ws gs n)
-    built gs EXSET = tt
+    built gs EXSET = refl
     built gs EXGET = tt
     built gs EXSETVER = tt
     built gs EXINCRBY = tt
     built gs EXCAS = refl
     built gs EXCAD = tt
-    built gs EXAPPEND = tt
-    built gs EXPREPEND = tt
+    built gs EXAPPEND = refl
+    built gs EXPREPEND = refl
     built gs EXGAE = tt
     built gs DEL = tt
 

@@ -1,0 +1,153 @@
+// A command by value. Its words stay in the borrowed bytes: a span says where.
+
+// Where the bytes of a word begin and end.
+pub struct Span {
+    pub start: usize,
+    pub end: usize,
+}
+
+// NX and XX.
+pub enum Presence {
+    Always,
+    IfAbsent,
+    IfLive,
+}
+
+// What becomes of the version: one higher, one higher from this one only (VER), or this one (ABS).
+pub enum Change {
+    Raise,
+    RaiseFrom(u64),
+    Set(u64),
+}
+
+// What becomes of the expiry.
+pub enum Expire {
+    Clear,
+    Keep,
+    At(u64),
+}
+
+// MIN or MAX.
+pub enum Bound {
+    Open,
+    At(i64),
+}
+
+// The end of the stored value where EXAPPEND and EXPREPEND put their text.
+pub enum End {
+    Back,
+    Front,
+}
+
+// What is to be done at the key.
+pub enum Action {
+    // EXSET
+    Set {
+        value: Span,
+        presence: Presence,
+        change: Change,
+        expire: Expire,
+        flags: u32,
+        with_version: bool,
+    },
+    // EXGET
+    Get {
+        with_flags: bool,
+    },
+    // EXSETVER
+    SetVersion {
+        version: u64,
+    },
+    // EXINCRBY
+    Increment {
+        by: i64,
+        presence: Presence,
+        change: Change,
+        expire: Expire,
+        min: Bound,
+        max: Bound,
+        non_negative: bool,
+        with_version: bool,
+    },
+    // EXCAS
+    Swap {
+        value: Span,
+        version: u64,
+        expire: Expire,
+    },
+    // EXCAD
+    Remove {
+        version: u64,
+    },
+    // EXAPPEND and EXPREPEND
+    Join {
+        end: End,
+        value: Span,
+        presence: Presence,
+        change: Change,
+    },
+    // EXGAE
+    Touch {
+        expiry: u64,
+    },
+    // DEL
+    Delete,
+}
+
+// A command: its key and what is to be done there.
+pub struct Request {
+    pub key: Span,
+    pub action: Action,
+}
+
+// A command, or document 01's number of the refusal, 5 to 11.
+pub enum Parsed {
+    Request(Request),
+    Refused(u32),
+}
+
+// ---- names and option words
+
+pub enum Name {
+    Exset,
+    Exget,
+    Exsetver,
+    Exincrby,
+    Excas,
+    Excad,
+    Exappend,
+    Exprepend,
+    Exgae,
+    Del,
+}
+
+// The name that a word spells, if any.
+pub enum Named {
+    Known(Name),
+    Unknown,
+}
+
+// Options that hold no choice.
+pub enum Plain {
+    Keepttl,
+    Flags,
+    Min,
+    Max,
+    Nonnegative,
+    Withversion,
+    Withflags,
+}
+
+// An option. A time word has its unit in milliseconds; EX and PX count from the call's time.
+pub enum Opt {
+    Time { unit: u64, from_now: bool },
+    Presence(Presence),
+    Version { absolute: bool },
+    Plain(Plain),
+}
+
+// The option that a word spells, if any.
+pub enum Spelled {
+    Known(Opt),
+    Unknown,
+}
