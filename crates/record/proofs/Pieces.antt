@@ -9,52 +9,22 @@ use lib.Seq.{take-at, drop-at, take-all, take-append-seam}
 use borrow.Author.Tests.{ltb-true, leb-true, le-leb, lt-ltb}
 use Rattle.model.specs.Bytes.{all, part, padded, littleEndian}
 use Rattle.model.specs.Table.{form128, Record, recordBytes, fields, rules, lawful, keyAt, valueAt}
-use Rattle.slice.proofs.Equal.{and-left, and-right}
+use Rattle.model.proofs.Records as Records
+pub use Rattle.model.proofs.Basics.{Every, every}
 use Rattle.slice.proofs.Written.{length-padded}
 use Rattle.slice.proofs.LittleEndian.{from-littleEndian}
 use Rattle.record.specs.Record.{head}
 
 -- ---- records in range
 
-pub record InRange (r : Record) : Type 0 where
-  pub key-from : 1 ≤ length (r .key)
-  pub key-to : length (r .key) ≤ 24
-  pub value-to : length (r .value) ≤ 64
-  pub flags-to : r .flags < 2 ^ 32
-  pub version-to : r .version < 2 ^ 63
-  pub expiry-to : r .expiry ≤ 2 ^ 62
-
--- the tests of a list that passes, one by one
-abbrev pub Every : List Bool → Type 0
-Every [] = Unit {0}
-Every (b ∷ bs) = (b ≡ true) × Every bs
-
-pub every : (bs : List Bool) → all bs ≡ true → Every bs
-every [] e = tt
-every (b ∷ bs) e = (and-left b (all bs) e, every bs (and-right b (all bs) e))
+abbrev pub InRange : Record → Type 0
+InRange r = Records.InRange form128 r
 
 pub lawful-range : (r : Record) → lawful form128 r ≡ true → InRange r
-lawful-range r h =
-    let p = every (rules form128 r) h in
-    record {
-      key-from = leb-true _ _ (p .0);
-      key-to = leb-true _ _ (p .1 .0);
-      value-to = leb-true _ _ (p .1 .1 .0);
-      flags-to = ltb-true _ _ (p .1 .1 .1 .0);
-      version-to = ltb-true _ _ (p .1 .1 .1 .1 .0);
-      expiry-to = leb-true _ _ (p .1 .1 .1 .1 .1 .0);
-    }
+lawful-range r h = Records.lawful-in-range form128 r h
 
 pub range-lawful : (r : Record) → InRange r → lawful form128 r ≡ true
-range-lawful r h =
-    rw (
-      le-leb 1 (length (r .key)) (h .key-from),
-      le-leb (length (r .key)) 24 (h .key-to),
-      le-leb (length (r .value)) 64 (h .value-to),
-      lt-ltb (r .flags) (2 ^ 32) (h .flags-to),
-      lt-ltb (r .version) (2 ^ 63) (h .version-to),
-      le-leb (r .expiry) (2 ^ 62) (h .expiry-to),
-    )
+range-lawful r h = Records.in-range-lawful form128 r h
 
 -- ---- pieces
 
@@ -82,8 +52,7 @@ unfolding recordBytes head littleEndian
 pieces r h = rw (sym (padded-more 64 16 (r .value) h))
 
 pub length-recordBytes : (r : Record) → length (r .key) ≤ 24 → length (r .value) ≤ 64 → length (recordBytes form128 r) ≡ 128
-length-recordBytes r hk hv =
-    rw (pieces r hv, length-append, length-front (length (r .value)) r hk, length-padded 80 (r .value) (omega arith))
+length-recordBytes r hk hv = Records.length-recordBytes form128 r hk hv
 
 pub part-key : (r : Record) → length (r .key) ≤ 24 → length (r .value) ≤ 64 → part 24 24 (recordBytes form128 r) ≡ padded 24 (r .key)
 part-key r hk hv =
@@ -96,24 +65,5 @@ part-value r hk hv =
     rw (pieces r hv, drop-at (front (length (r .value)) r) _ 48 (length-front (length (r .value)) r hk))
     (take-all 80 (padded 80 (r .value)) (rw (length-padded 80 (r .value) (omega arith)) (omega arith)))
 
--- ---- the fields of a record's bytes
-
-module _ (r : Record) (h : InRange r) where
-  key-back : part keyAt (length (r .key)) (recordBytes form128 r) ≡ r .key
-  unfolding recordBytes littleEndian
-  key-back = rw (append-assoc (r .key)) (take-append-seam (r .key) _)
-
-  value-back : part valueAt (length (r .value)) (recordBytes form128 r) ≡ r .value
-  value-back =
-      rw (pieces r (h .value-to), drop-at (front (length (r .value)) r) _ 48 (length-front (length (r .value)) r (h .key-to)))
-      (take-append-seam (r .value) _)
-
-  pub fields-recordBytes : fields (recordBytes form128 r) ≡ r
-  unfolding recordBytes littleEndian
-  fields-recordBytes i = record {
-    key = key-back i;
-    value = value-back i;
-    flags = from-littleEndian 4 (r .flags) (h .flags-to) i;
-    version = from-littleEndian 8 (r .version) (omega (arith, h .version-to)) i;
-    expiry = from-littleEndian 8 (r .expiry) (omega (arith, h .expiry-to)) i;
-  }
+pub fields-recordBytes : (r : Record) → InRange r → fields (recordBytes form128 r) ≡ r
+fields-recordBytes r h = Records.fields-recordBytes form128 r h

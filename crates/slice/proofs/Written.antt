@@ -8,12 +8,10 @@ use lib.ListN.{length, take, drop, set, replicate, drop-of-length-le, getD, leng
 use lib.Seq.{getD-take, take-at, drop-at, drop-drop, drop-cons, take-add, take-suc, length-take-le, set-at, append-snoc, take-append-seam, sets, sets-eq, length-sets, paste, take-length}
 use borrow.Rule.Slice.PartMut.{putMid, post-is}
 use Rattle.model.specs.Bytes.{part, padded, written}
+pub use Rattle.model.proofs.Records.{length-padded}
 
 pub length-part : (at n : ℕ) (s : List ℕ) → at + n ≤ length s → length (part at n s) ≡ n
 length-part at n s h = simp (length-take, length-drop) (omega arith)
-
-pub length-padded : (n : ℕ) (s : List ℕ) → length s ≤ n → length (padded n s) ≡ n
-length-padded n s h = simp (length-append, length-replicate) (omega arith)
 
 -- a part of a slice from a to a + n, as code has it
 module _ (a n : ℕ) (s : List ℕ) where
