@@ -1,0 +1,52 @@
+-- The part of a table that is lent for record i, as the borrow checker writes `&table[i * 128..i * 128 + 128]`, is record i, and what a call
+-- says of the part it says of slot i.
+use Prim.Native.Nat.{ℕ, _+_, _-_, _*_, _/_, _≤_, _<_}
+use native.Mathlib.Omega.{arith}
+use mathlib.Core.Path.{_≡_, ap, _∙_}
+use mathlib.Core.Bool.{true, false}
+use mathlib.Core.List.{List}
+use mathlib.Core.Option.{Option, some, Option·getD}
+use lib.ListN.{length, take, drop, getD}
+use Rattle.model.specs.Table.{Slot, empty, used, isEmpty, fields, form128, readTable, readSlot, slotBytes, recordAt}
+use Rattle.model.specs.Command.{isSome}
+use Rattle.slice.proofs.Written.{length-part, part-is}
+use Rattle.record.specs.Record.{slotOf, Readable, InUse}
+use Rattle.table.specs.Slots.{slotsOf}
+use Rattle.table.proofs.Records.{table-length, slot-at, was-read}
+
+-- the part that is lent for record i
+abbrev pub lent : ℕ → List ℕ → List ℕ
+lent i t = take (i * 128 + 128 - i * 128) (drop (i * 128) t)
+
+pub lent-is : (i : ℕ) (t : List ℕ) → lent i t ≡ recordAt form128 i t
+lent-is i t = part-is (i * 128) 128 t
+
+pub lent-length : (i : ℕ) (t : List ℕ) → i * 128 + 128 ≤ length t → length (lent i t) ≡ 128
+lent-length i t h = rw (lent-is i t) (length-part (i * 128) 128 t h)
+
+module _ (t : List ℕ) (ok : isSome (readTable form128 t) ≡ true) where
+  pub count : length t / 128 ≡ length (slotsOf t)
+  count = omega (arith, table-length t ok)
+
+  module _ (i : ℕ) (h : i < length (slotsOf t)) where
+    read : readSlot form128 (lent i t) ≡ some (getD (slotsOf t) i empty)
+    read = rw (lent-is i t) (slot-at t ok i h)
+
+    size : length (lent i t) ≡ 128
+    size = lent-length i t (omega (arith, table-length t ok))
+
+    pub lent-slot : slotOf (lent i t) ≡ getD (slotsOf t) i empty
+    lent-slot = ap (λ (o : Option Slot). Option·getD o empty) read
+
+    pub lent-bytes : slotBytes form128 (getD (slotsOf t) i empty) ≡ lent i t
+    lent-bytes = was-read form128 (lent i t) (getD (slotsOf t) i empty) read .bytes
+
+    pub lent-readable : Readable (lent i t)
+    lent-readable = record { size = size; read = ap isSome read }
+
+    module _ (u : isEmpty (getD (slotsOf t) i empty) ≡ false) where
+      pub slot-used : getD (slotsOf t) i empty ≡ used (fields (lent i t))
+      slot-used = was-read form128 (lent i t) (getD (slotsOf t) i empty) read .in-use u
+
+      pub lent-in-use : InUse (lent i t)
+      lent-in-use = record { size = size; read = read ∙ ap {B = Option Slot} some slot-used }

@@ -1,0 +1,75 @@
+// The search for a key, and the choice of the slot that a write takes.
+use crate::Found;
+use crate::RECORD_SIZE;
+ghost use Prim.Native.Nat.{_≤_};
+ghost use mathlib.Core.Path.{_≡_};
+ghost use mathlib.Core.Bool.{true};
+ghost use lib.ListN.{length};
+ghost use Rattle.model.specs.Optional.{orElse};
+ghost use Rattle.model.specs.Table.{form128, readTable, holds, lowest, isEmpty, isExpired, slotFor};
+ghost use Rattle.model.specs.Command.{isSome};
+ghost use Rattle.table.specs.Slots.{slotsOf, foundFrom, keySlot, lowestFrom};
+
+// The lowest slot from `first` on whose record in use has the key.
+pub fn find_from(table: &[u8], first: usize, key: &[u8]) -> Found
+    requires { ⌜ isSome (readTable form128 (now table)) ≡ true ⌝ }
+    requires { ⌜ first ≤ length (slotsOf (now table)) ⌝ }
+    ensures { λ r. ⌜ r ≡ foundFrom (lowestFrom (holds (now (key .entry))) (slotsOf (now (table .entry))) first) ⌝ }
+{
+    let n = table.len() / RECORD_SIZE;
+    let mut i = first;
+    while i < n {
+        let from = i * RECORD_SIZE;
+        if record::has_key(&table[from..from + RECORD_SIZE], key) {
+            return Found::At(i);
+        }
+        i += 1;
+    }
+    Found::Nothing
+}
+
+// The slot of the record in use with the key, live or not.
+pub fn find(table: &[u8], key: &[u8]) -> Found
+    requires { ⌜ isSome (readTable form128 (now table)) ≡ true ⌝ }
+    ensures { λ r. ⌜ r ≡ foundFrom (keySlot (now (key .entry)) (slotsOf (now (table .entry)))) ⌝ }
+{
+    find_from(table, 0, key)
+}
+
+// The lowest empty slot, else the lowest with an expired record.
+pub fn free_slot(table: &[u8], now: u64) -> Found
+    requires { ⌜ isSome (readTable form128 (table .now)) ≡ true ⌝ }
+    ensures { λ r. ⌜ r ≡ foundFrom (orElse (lowest isEmpty (slotsOf (table .entry .now))) (lowest (isExpired now) (slotsOf (table .entry .now)))) ⌝ }
+{
+    let n = table.len() / RECORD_SIZE;
+    let mut expired = n;
+    let mut i = 0;
+    while i < n {
+        let from = i * RECORD_SIZE;
+        let r = &table[from..from + RECORD_SIZE];
+        if !record::in_use(r) {
+            return Found::At(i);
+        }
+        if expired == n {
+            if !record::is_live(r, now) {
+                expired = i;
+            }
+        }
+        i += 1;
+    }
+    if expired < n {
+        return Found::At(expired);
+    }
+    Found::Nothing
+}
+
+// The slot that a write to the key takes where no live record has it: its own record, else a free one.
+pub fn slot_for(table: &[u8], now: u64, key: &[u8]) -> Found
+    requires { ⌜ isSome (readTable form128 (table .now)) ≡ true ⌝ }
+    ensures { λ r. ⌜ r ≡ foundFrom (slotFor now (key .entry .now) (slotsOf (table .entry .now))) ⌝ }
+{
+    let Found::At(own) = find(table, key) else {
+        return free_slot(table, now);
+    };
+    Found::At(own)
+}
