@@ -2,7 +2,7 @@
 use mathlib.Core.Path.{_≡_, refl, sym, ap, _∙_, subst}
 use mathlib.Core.List.{List, []}
 use mathlib.Core.Option.{Option, none, some}
-use Prim.Native.Nat.{ℕ, _+_, _-_, _≤_}
+use Prim.Native.Nat.{ℕ, _+_, _-_, _≤_, _<_}
 use native.Mathlib.Nat.{add-sub-cancel-left}
 use lib.ListN.{length, take, drop}
 use lib.IntN.{ℤ}
@@ -15,7 +15,7 @@ use Rattle.model.specs.Command.{wordAt, parse}
 use Rattle.model.specs.Execute.{keyOf}
 use Rattle.model.specs.CurrentValue.{wordStart}
 use Rattle.model.proofs.Words.{Decoded, encode-decode}
-use Rattle.model.proofs.Shown.{wordStart-part, ValueWord, value-word}
+use Rattle.model.proofs.Shown.{wordStart-part, wordStart-within, ValueWord, value-word}
 use Rattle.model.proofs.Steps.{Comes}
 use Rattle.model.proofs.Commands.{Parsing, Known, parse-known}
 use Rattle.command.specs.Command.{bytesOf, presenceOf, changeOf, expireOf, boundOf, endOf, actionOf, commandOf, spanAt, presenceFrom, changeFrom, expireFrom, boundFrom, endFrom, actionFrom, requestFrom, wordsOf}
@@ -56,14 +56,14 @@ module _ (s : List ℕ) (ws : List (List ℕ)) (d : decode s ≡ some ws) where
 
   action-back : (k : List ℕ) (c : model.Command) → keyOf c ≡ k → ValueWord ws c → actionOf s k (actionFrom ws c) ≡ c
   action-back k (model.exset key v p c e g w) hk hv =
-      λ i. model.exset (sym hk i) ((span-bytes 2 ∙ sym hv) i) (presence-back p i) (change-back c i) (expire-back e i) g w
+      λ i. model.exset (sym hk i) ((span-bytes 2 ∙ sym (hv .0)) i) (presence-back p i) (change-back c i) (expire-back e i) g w
   action-back k (model.exget key w) hk hv = ap (λ (y : List ℕ). model.exget y w) (sym hk)
   action-back k (model.exsetver key n) hk hv = ap (λ (y : List ℕ). model.exsetver y n) (sym hk)
   action-back k (model.exincrby key z p c e min max nn w) hk hv =
       λ i. model.exincrby (sym hk i) z (presence-back p i) (change-back c i) (expire-back e i) (bound-back min i) (bound-back max i) nn w
-  action-back k (model.excas key v n e) hk hv = λ i. model.excas (sym hk i) ((span-bytes 2 ∙ sym hv) i) n (expire-back e i)
+  action-back k (model.excas key v n e) hk hv = λ i. model.excas (sym hk i) ((span-bytes 2 ∙ sym (hv .0)) i) n (expire-back e i)
   action-back k (model.excad key n) hk hv = ap (λ (y : List ℕ). model.excad y n) (sym hk)
-  action-back k (model.exjoin e key v p c) hk hv = λ i. model.exjoin (end-back e i) (sym hk i) ((span-bytes 2 ∙ sym hv) i) (presence-back p i) (change-back c i)
+  action-back k (model.exjoin e key v p c) hk hv = λ i. model.exjoin (end-back e i) (sym hk i) ((span-bytes 2 ∙ sym (hv .0)) i) (presence-back p i) (change-back c i)
   action-back k (model.exgae key x) hk hv = ap (λ (y : List ℕ). model.exgae y x) (sym hk)
   action-back k (model.del key) hk hv = ap model.del (sym hk)
 
@@ -74,3 +74,7 @@ module _ (s : List ℕ) (ws : List (List ℕ)) (d : decode s ≡ some ws) where
       let known : Known f (wordAt 1 ws) c = subst (Comes Parsing (Known f (wordAt 1 ws))) h (parse-known f now ws) in
       let value : ValueWord ws c = subst (Comes Parsing (ValueWord ws)) h (value-word f now ws) in
       action-back (bytesOf s (spanAt 1 ws)) c (known .key ∙ sym (span-bytes 1)) value
+
+  -- the spans of the key and of the value lie in the command
+  pub span-within : (i : ℕ) → i < length ws → spanAt i ws .end ≤ length s
+  span-within i h = subst (λ (y : List ℕ). wordStart i ws + length (wordAt i ws) ≤ length y) (sym (encode-decode s ws d .bytes)) (wordStart-within ws i h)

@@ -1,12 +1,12 @@
 -- What is known of a command that parsed: its key is word 1, of 1 to 24 bytes, and its numbers are in range; a refusal is by 5 to 11.
 use mathlib.Core.Path.{_≡_, refl, sym, ap, _∙_, subst}
-use mathlib.Core.Bool.{Bool, true, false, cond, _&&_}
+use mathlib.Core.Bool.{Bool, true, false, cond, _&&_, _||_, not}
 use mathlib.Core.List.{List, [], _∷_}
 use mathlib.Core.Option.{Option, none, some, Option·getD}
 use Prim.Native.Nat.{ℕ, suc, _≤_, _<_, _+_, _*_}
 use native.Mathlib.Omega.{arith}
 use lib.ListN.{length, drop}
-use lib.Dec.{leb, ltb}
+use lib.Dec.{leb, ltb, eqb}
 use lib.IntN.{ℤ, pos}
 use lib.Signed.{ltZ}
 use borrow.Author.Tests.{leb-true, ltb-true}
@@ -20,7 +20,7 @@ use Rattle.model.specs.Command.{Presence, Change, raise, set, Expire, cl
 use Rattle.model.specs.Command.{Opt, time, presence, version, plain, Kind, timeWord, nxOrXx, verOrAbs, flagsWord, minWord, maxWord, withFlags, Name, EXSET, EXGET, EXSETVER, EXINCRBY, EXCAS, EXCAD, EXAPPEND, EXPREPEND, EXGAE, DEL}
 use Rattle.model.specs.Command.{look, names, Rule, ruleOf, wordAt, countOk, sizeTests, Given, pick, has, readOptions, enough, numbersOk, versionOf, flagsOf, signedOf, expireBy, expireOf, expireOk, timeOk, boundOf, ordered, changeBy, changeOf, flagsGiven, expirySet, build, parseNamed, parse}
 use Rattle.model.specs.Execute.{keyOf}
-use Rattle.model.proofs.Basics.{every, imply, and-right}
+use Rattle.model.proofs.Basics.{every, imply, and-left, and-right}
 use Rattle.model.proofs.Steps.{Comes, by-check, by-given}
 
 -- ---- arguments in range
@@ -155,7 +155,7 @@ module _ (now : ℕ) (ws : List (List ℕ)) (gs : List Given) (ht : timeOk now (
 module _ (f : Form) (now : ℕ) (ws : List (List ℕ)) where
   -- what holds of every command that the tests let through
   pub parse-named : (P : Command → Type 0) (n : Name)
-      → (1 ≤ length (wordAt 1 ws) → length (wordAt 1 ws) ≤ keyLimit → (ruleOf n .valued ≡ true → length (wordAt 2 ws) ≤ f .valueLimit) → (gs : List Given) → timeOk now (pick timeWord gs) ≡ true → P (build now ws gs n))
+      → (ruleOf n .fixed ≤ length ws → 1 ≤ length (wordAt 1 ws) → length (wordAt 1 ws) ≤ keyLimit → (ruleOf n .valued ≡ true → length (wordAt 2 ws) ≤ f .valueLimit) → (gs : List Given) → timeOk now (pick timeWord gs) ≡ true → P (build now ws gs n))
       → Comes Parsing P (parseNamed f now ws n (ruleOf n))
   parse-named P n h =
       by-check Parsing P 6 (countOk (ruleOf n) (length ws)) _ (omega arith) λ h6.
@@ -166,7 +166,8 @@ module _ (f : Form) (now : ℕ) (ws : List (List ℕ)) where
       by-check Parsing P 10 (timeOk now (pick timeWord gs)) _ (omega arith) λ h10.
       by-check Parsing P 11 (ordered (boundOf (pick minWord gs)) (boundOf (pick maxWord gs))) _ (omega arith) λ h11.
       let sizes = every (sizeTests f (ruleOf n) (wordAt 1 ws) (wordAt 2 ws)) h7 in
-      h (leb-true 1 (length (wordAt 1 ws)) (sizes .0)) (leb-true (length (wordAt 1 ws)) keyLimit (sizes .1 .0))
+      h (leb-true (ruleOf n .fixed) (length ws) (and-left (leb (ruleOf n .fixed) (length ws)) (not (ruleOf n .exact) || eqb (length ws) (ruleOf n .fixed)) h6))
+      (leb-true 1 (length (wordAt 1 ws)) (sizes .0)) (leb-true (length (wordAt 1 ws)) keyLimit (sizes .1 .0))
       (λ v. leb-true (length (wordAt 2 ws)) (f .valueLimit) (imply (ruleOf n .valued) (leb (length (wordAt 2 ws)) (f .valueLimit)) (sizes .1 .1 .0) v))
       gs h10
 
@@ -174,7 +175,7 @@ module _ (f : Form) (now : ℕ) (ws : List (List ℕ)) where
   unfolding parse
   parse-known =
       by-given Parsing (Known f (wordAt 1 ws)) 5 (look (uppers (wordAt 0 ws)) names) _ (omega arith) λ n h5.
-      parse-named (Known f (wordAt 1 ws)) n λ lo hi hv gs ht.
+      parse-named (Known f (wordAt 1 ws)) n λ hw lo hi hv gs ht.
       record {
         key = built-key now ws gs ht n;
         key-from = lo;
@@ -190,7 +191,7 @@ IsGet k c = (b : Bool) × (c ≡ exget k b)
 
 pub parse-get : (f : Form) (now : ℕ) (ws : List (List ℕ)) → uppers (wordAt 0 ws) ≡ text "EXGET" → Comes Parsing (IsGet (wordAt 1 ws)) (parse f now ws)
 unfolding parse
-parse-get f now ws e = rw e (parse-named f now ws (IsGet (wordAt 1 ws)) EXGET λ lo hi hv gs ht. (has withFlags gs, refl))
+parse-get f now ws e = rw e (parse-named f now ws (IsGet (wordAt 1 ws)) EXGET λ hw lo hi hv gs ht. (has withFlags gs, refl))
 
 module _ (f : Form) (now : ℕ) (name k v version option : List ℕ) (n : ℕ) (en : uppers name ≡ text "EXCAS") (ev : readVersion version ≡ some n)
     (eo : uppers option ≡ text "KEEPTTL") where

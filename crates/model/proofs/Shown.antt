@@ -13,7 +13,7 @@ use Rattle.model.specs.Bytes.{part, crlf, uppers}
 use Rattle.model.specs.Checked.{Checked, refuse, ok, check, given, _>>=_, _>>_}
 use Rattle.model.specs.Table.{Form, Record, Slot, empty, used, Found, recordSize, valueAt, timeLimit, recordBytes, tableBytes, recordAt, findLive, distinct, readTable}
 use Rattle.model.specs.Resp.{arrayMark, bulkMark, line, bulkBytes, bulksBytes, encode, decode, Reply}
-use Rattle.model.specs.Command.{Command, exset, exget, exsetver, exincrby, excas, excad, exjoin, exgae, del, Expire, Name, EXSET, EXGET, EXSETVER, EXINCRBY, EXCAS, EXCAD, EXAPPEND, EXPREPEND, EXGAE, DEL, Given, look, names, wordAt, build, parse}
+use Rattle.model.specs.Command.{Command, exset, exget, exsetver, exincrby, excas, excad, exjoin, exgae, del, Expire, Name, EXSET, EXGET, EXSETVER, EXINCRBY, EXCAS, EXCAD, EXAPPEND, EXPREPEND, EXGAE, DEL, Given, look, names, ruleOf, wordAt, build, parse}
 use Rattle.model.specs.Execute.{Effect, answer, store, New, getReply, swapReply, staleReply, versionAfter, swapping, placeOf, write, onLive, minusOne, executeOn, keyOf, execute}
 use Rattle.model.specs.Call.{Outcome, goodTable, effectOn, call}
 use Rattle.model.specs.CurrentValue.{Shown, nothing, inTable, inCommand, isShown, shownBytes, wordStart, valueOf, shownAfter, shownOn, orNothing, shows, currentValue}
@@ -61,6 +61,25 @@ wordStart-part ws i =
     ∙ ap (drop (length (bulksBytes (take i ws)))) (drop-append-seam (line arrayMark (length ws)) (bulksBytes ws))))
     ∙ in-bulks ws i
 
+-- a word ends before its CR LF, within the command
+in-bulks-within : (ws : List (List ℕ)) (i : ℕ) → i < length ws
+    → length (bulksBytes (take i ws)) + length (line bulkMark (length (wordAt i ws))) + length (wordAt i ws) ≤ length (bulksBytes ws)
+in-bulks-within [] i h = absurd (omega arith)
+in-bulks-within (w ∷ ws) zero h =
+    let a = length-append (bulkBytes w) (bulksBytes ws) in
+    let b = length-append (line bulkMark (length w)) (w ++ crlf) in
+    let c = length-append w crlf in
+    omega arith
+in-bulks-within (w ∷ ws) (suc i) h =
+    let a = length-append (bulkBytes w) (bulksBytes ws) in
+    let b = length-append (bulkBytes w) (bulksBytes (take i ws)) in
+    omega (arith, in-bulks-within ws i (omega arith))
+
+pub wordStart-within : (ws : List (List ℕ)) (i : ℕ) → i < length ws → wordStart i ws + length (wordAt i ws) ≤ length (encode ws)
+unfolding wordStart encode
+wordStart-within ws i h =
+    omega (arith, in-bulks-within ws i h, length-append (line arrayMark (length ws)) (bulksBytes ws))
+
 -- ---- a part of a record is a part of the table
 
 part-of-take : (a n m : ℕ) (l : List ℕ) → a + n ≤ m → m ≤ length l → take n (drop a (take m l)) ≡ take n (drop a l)
@@ -73,13 +92,13 @@ part-of-take a n m l h len =
 -- ---- the value of a command that has one is word 2
 
 abbrev pub ValueWord : List (List ℕ) → Command → Type 0
-ValueWord ws (exset k v p c e g w) = v ≡ wordAt 2 ws
+ValueWord ws (exset k v p c e g w) = (v ≡ wordAt 2 ws) × (2 < length ws)
 ValueWord ws (exget k w) = Unit {0}
 ValueWord ws (exsetver k n) = Unit {0}
 ValueWord ws (exincrby k z p c e min max nn w) = Unit {0}
-ValueWord ws (excas k v n e) = v ≡ wordAt 2 ws
+ValueWord ws (excas k v n e) = (v ≡ wordAt 2 ws) × (2 < length ws)
 ValueWord ws (excad k n) = Unit {0}
-ValueWord ws (exjoin e k v p c) = v ≡ wordAt 2 ws
+ValueWord ws (exjoin e k v p c) = (v ≡ wordAt 2 ws) × (2 < length ws)
 ValueWord ws (exgae k x) = Unit {0}
 ValueWord ws (del k) = Unit {0}
 
@@ -87,19 +106,38 @@ pub value-word : (f : Form) (now : ℕ) (ws : List (List ℕ)) → Comes Parsing
 unfolding parse
 value-word f now ws =
     by-given Parsing (ValueWord ws) 5 (look (uppers (wordAt 0 ws)) names) _ (omega arith) λ n h5.
-    parse-named f now ws (ValueWord ws) n λ lo hi hv gs ht. built gs n
+    parse-named f now ws (ValueWord ws) n λ hw lo hi hv gs ht. built gs n hw
   where
-    built : (gs : List Given) (n : Name) → ValueWord ws (build now ws gs n)
-    built gs EXSET = refl
-    built gs EXGET = tt
-    built gs EXSETVER = tt
-    built gs EXINCRBY = tt
-    built gs EXCAS = refl
-    built gs EXCAD = tt
-    built gs EXAPPEND = refl
-    built gs EXPREPEND = refl
-    built gs EXGAE = tt
-    built gs DEL = tt
+    built : (gs : List Given) (n : Name) → ruleOf n .fixed ≤ length ws → ValueWord ws (build now ws gs n)
+    built gs EXSET h = (refl, h)
+    built gs EXGET h = tt
+    built gs EXSETVER h = tt
+    built gs EXINCRBY h = tt
+    built gs EXCAS h = (refl, omega arith)
+    built gs EXCAD h = tt
+    built gs EXAPPEND h = (refl, h)
+    built gs EXPREPEND h = (refl, h)
+    built gs EXGAE h = tt
+    built gs DEL h = tt
+
+-- every command has a key
+pub key-word : (f : Form) (now : ℕ) (ws : List (List ℕ)) → Comes Parsing (λ c. 1 < length ws) (parse f now ws)
+unfolding parse
+key-word f now ws =
+    by-given Parsing (λ c. 1 < length ws) 5 (look (uppers (wordAt 0 ws)) names) _ (omega arith) λ n h5.
+    parse-named f now ws (λ c. 1 < length ws) n λ hw lo hi hv gs ht. keyed n hw
+  where
+    keyed : (n : Name) → ruleOf n .fixed ≤ length ws → 1 < length ws
+    keyed EXSET h = omega arith
+    keyed EXGET h = h
+    keyed EXSETVER h = omega arith
+    keyed EXINCRBY h = omega arith
+    keyed EXCAS h = omega arith
+    keyed EXCAD h = omega arith
+    keyed EXAPPEND h = omega arith
+    keyed EXPREPEND h = omega arith
+    keyed EXGAE h = h
+    keyed DEL h = h
 
 -- ---- after the call the value stands at the key
 
@@ -243,7 +281,7 @@ module _ (f : Form) (w : Roomy f) (t : List ℕ) (now : ℕ) (c b : List ℕ) (r
     unfolding execute
     shown-live (exget k b) hc known vw e he o ho =
         λ h. unchanged (exget k b) hc known o ho (getReply b (o .rec)) (ap (λ (o : Option Found). executeOn f now ss o (exget k b)) ho)
-    shown-live (excas k v n x) hc known vw e he o ho = swap-shown k v n x hc known vw e he o ho (eqb n (o .rec .version)) refl
+    shown-live (excas k v n x) hc known vw e he o ho = swap-shown k v n x hc known (vw .0) e he o ho (eqb n (o .rec .version)) refl
     shown-live (exset k v p c x g b) hc known vw e he o ho = none-shown nothing refl
     shown-live (exsetver k n) hc known vw e he o ho = none-shown nothing refl
     shown-live (exincrby k z p c x min max nn b) hc known vw e he o ho = none-shown nothing refl

@@ -1,0 +1,3 @@
+-- Laws of this crate's proofs.
+pub mod Letters
+pub mod WordList
