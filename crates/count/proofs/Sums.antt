@@ -23,6 +23,10 @@ use Rattle.number.specs.declared.Sum.the-variants.{Fits, Overflow}
 use Rattle.count.specs.Total.{totalFrom, totalOf}
 use Rattle.count.specs.declared.Total.the-variants.{Value, Refused}
 
+-- two constructors are never equal
+clash : {X : Type 0} → _≡_ {A = ℕ} 0 1 → X
+clash e = absurd (omega arith)
+
 -- ---- the bounds
 
 pub below-is : (b : Bound) (least z : ℤ) (t : Bool) → b ≡ Bound.At least → ltZ z least ≡ t → notBelow (boundOf b) z ≡ not t
@@ -39,7 +43,7 @@ floored-below (negsuc n) t = refl
 
 pub floored-other : (z : ℤ) → ltZ z (pos 0) ≡ false → floored true z ≡ z
 floored-other (pos n) t = refl
-floored-other (negsuc n) t = let z : _≡_ {A = ℕ} 0 1 = cc in absurd (omega arith)
+floored-other (negsuc n) t = clash cc
 
 -- ---- the sum
 
@@ -49,7 +53,7 @@ module _ (a z : ℤ) (min max : Option ℤ) (nn : Bool) where
   sum-outside e = go (isSigned (a +ℤ z)) refl e
     where
       go : (t : Bool) → isSigned (a +ℤ z) ≡ t → cond t (Fits (a +ℤ z)) Overflow ≡ Overflow → sum a z min max nn ≡ refuse 14
-      go true p q = let z : _≡_ {A = ℕ} 0 1 = cc in absurd (omega arith)
+      go true p q = clash cc
       go false p q = rw p
 
   module _ (s : ℤ) (e : sumFrom (a +ℤ z) ≡ Fits s) where
@@ -58,7 +62,7 @@ module _ (a z : ℤ) (min max : Option ℤ) (nn : Bool) where
       where
         go : (t : Bool) → isSigned (a +ℤ z) ≡ t → cond t (Fits (a +ℤ z)) Overflow ≡ Fits s → (isSigned (a +ℤ z) ≡ true) × (a +ℤ z ≡ s)
         go true p q = (p, cc)
-        go false p q = let z : _≡_ {A = ℕ} 0 1 = cc in absurd (omega arith)
+        go false p q = clash cc
 
     pub sum-low : notBelow min s ≡ false → sum a z min max nn ≡ refuse 14
     sum-low q = rw (sum-fits .0, sum-fits .1, q)
@@ -78,14 +82,14 @@ module _ (z : ℤ) (min max : Option ℤ) (nn : Bool) (s : List ℕ) where
     where
       go : (o : Option ℤ) → signedFrom o ≡ Signed.Bad → (given 13 o >>= λ a. sum a z min max nn) ≡ refuse 13
       go none e = refl
-      go (some a) e = let z : _≡_ {A = ℕ} 0 1 = cc in absurd (omega arith)
+      go (some a) e = clash cc
 
   pub total-read : (a : ℤ) → signedFrom (readSigned s) ≡ Signed.Value a → totalOf z min max nn (some s) ≡ sum a z min max nn
   unfolding totalOf
   total-read a e = go (readSigned s) e
     where
       go : (o : Option ℤ) → signedFrom o ≡ Signed.Value a → (given 13 o >>= λ a. sum a z min max nn) ≡ sum a z min max nn
-      go none e = let z : _≡_ {A = ℕ} 0 1 = cc in absurd (omega arith)
+      go none e = clash cc
       go (some b) e = let q : b ≡ a = cc in ap (λ (x : ℤ). sum x z min max nn) q
 
 -- an absent key counts from 0
@@ -97,10 +101,10 @@ total-absent z min max nn = refl
 
 pub total-refused : (x : Checked ℤ) (n : ℕ) → totalFrom x ≡ Refused n → x ≡ refuse n
 total-refused (refuse m) n e = let q : m ≡ n = cc in ap refuse q
-total-refused (ok z) n e = let z : _≡_ {A = ℕ} 0 1 = cc in absurd (omega arith)
+total-refused (ok z) n e = clash cc
 
 pub total-value : (x : Checked ℤ) (s : ℤ) → totalFrom x ≡ Value s → x ≡ ok s
-total-value (refuse m) s e = let z : _≡_ {A = ℕ} 0 1 = cc in absurd (omega arith)
+total-value (refuse m) s e = clash cc
 total-value (ok z) s e = let q : z ≡ s = cc in ap ok q
 
 module _ (z : ℤ) (min max : Option ℤ) (nn : Bool) (old : Option (List ℕ)) where

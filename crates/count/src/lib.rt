@@ -60,6 +60,7 @@ pub fn add_within(stored: i64, by: i64, min: Bound, max: Bound, non_negative: bo
     let Sum::Fits(z) = number::add(stored, by) else {
         return Total::Refused(14);
     };
+    // the range is tested on the sum itself, not on what is kept of it
     let kept = floor(non_negative, z);
     if !not_below(min, z) {
         return Total::Refused(14);

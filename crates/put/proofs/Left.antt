@@ -2,7 +2,6 @@
 use mathlib.Core.Path.{_≡_, refl, ap, subst}
 use mathlib.Core.List.{List}
 use Prim.Native.Nat.{ℕ, _<_}
-use native.Mathlib.Omega.{arith}
 use Rattle.model.specs.Checked.{Checked, refuse, ok}
 use Rattle.model.specs.Number.{versionLimit}
 use Rattle.model.specs.Table.{used}
@@ -10,7 +9,7 @@ use Rattle.model.proofs.Steps.{Comes}
 use Rattle.model.proofs.Calls.{Late}
 use Rattle.change.specs.Slot.{withSlot}
 use Rattle.put.specs.Put.{Put, Left, leftBy}
-use Rattle.put.proofs.Tests.{Below}
+use Rattle.put.proofs.Tests.{clash, Below}
 use Rattle.put.specs.declared.Stored.{Stored}
 use Rattle.put.specs.declared.Stored.the-variants.{Version, Refused}
 
@@ -36,12 +35,12 @@ left-refused t after (refuse m) n e =
     record { put = ap refuse z; table = ap (λ (l : Left). l .table) e }
 left-refused t after (ok p) n e =
     let q : Refused n ≡ Version (p .rec .version) = ap (λ (l : Left). l .stored) e in
-    let z : _≡_ {A = ℕ} 0 1 = cc in absurd (omega arith)
+    clash cc
 
 pub left-stored : (t after : List ℕ) (x : Checked Put) (n : ℕ) → left (Version n) after ≡ leftBy t x → WasStored t after x n
 left-stored t after (refuse m) n e =
     let q : Version n ≡ Refused m = ap (λ (l : Left). l .stored) e in
-    let z : _≡_ {A = ℕ} 0 1 = cc in absurd (omega arith)
+    clash cc
 left-stored t after (ok p) n e =
     let q : Version n ≡ Version (p .rec .version) = ap (λ (l : Left). l .stored) e in
     record { what = p; put = refl; version = cc; table = ap (λ (l : Left). l .table) e }

@@ -28,7 +28,7 @@ use Rattle.live.specs.declared.Version.the-variants.{Value, Top}
 use Rattle.put.specs.Put.{Put, put}
 
 -- two constructors are never equal
-clash : {X : Type 0} → _≡_ {A = ℕ} 0 1 → X
+pub clash : {X : Type 0} → _≡_ {A = ℕ} 0 1 → X
 clash e = absurd (omega arith)
 
 -- ---- the version
