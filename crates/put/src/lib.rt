@@ -81,7 +81,16 @@ pub fn store_number(
 {
     let mut text = [0u8; 20];
     let len = number::write_signed(&mut text, 0, z);
-    store_value(table, time, key, live, &text[..len], change, expire, Flags::Keep)
+    store_value(
+        table,
+        time,
+        key,
+        live,
+        &text[..len],
+        change,
+        expire,
+        Flags::Keep,
+    )
 }
 
 // Joins a text to the value of the record in use at a slot, and stores a version there.
@@ -115,7 +124,16 @@ pub fn join_value(
     ensures { λ r. ⌜ record { stored = r; table = now (table .exit) } ≡ leftBy (now (table .entry)) (putting time (now (table .entry)) (now (key .entry)) live (changeOf change) keep none (joined (endOf end) (now (value .entry)) (valueIn (liveOf (now (table .entry)) live)))) ⌝ }
 {
     let Found::At(slot) = live else {
-        return store_value(table, time, key, live, value, change, Expire::Keep, Flags::Keep);
+        return store_value(
+            table,
+            time,
+            key,
+            live,
+            value,
+            change,
+            Expire::Keep,
+            Flags::Keep,
+        );
     };
     let Version::Value(version) = live::version_after(table, live, change) else {
         return Stored::Refused(15);

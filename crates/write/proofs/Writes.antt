@@ -17,13 +17,13 @@ module _ (now : ℕ) (ss : List Slot) (k : List ℕ) (o : Option Hit) (w : Write
   putNew new = put now ss k o (w .change) (w .expire) (w .flags) (new .text) >>= λ p. ok (putEffect (new .reply) p)
 
   after-value : (new : New) → (
-    versionAfter (w .change) o >>= λ n.
-    check 16 (leb (length (new .text)) (form128 .valueLimit))
-    >> (given 17 (placeOf form128 now ss k o) >>= λ i.
-    ok
-    (store i
-    (used (record { key = k; value = new .text; flags = flagsAfter (w .flags) o; version = n; expiry = expiryAfter (w .expire) o }))
-    (new .reply n)))) ≡ putNew new
+      versionAfter (w .change) o >>= λ n.
+      check 16 (leb (length (new .text)) (form128 .valueLimit))
+      >> (given 17 (placeOf form128 now ss k o) >>= λ i.
+      ok
+      (store i
+      (used (record { key = k; value = new .text; flags = flagsAfter (w .flags) o; version = n; expiry = expiryAfter (w .expire) o }))
+      (new .reply n)))) ≡ putNew new
   unfolding put
   after-value new = go (versionAfter (w .change) o) (leb (length (new .text)) (form128 .valueLimit)) (placeOf form128 now ss k o)
     where

@@ -117,14 +117,7 @@ pub fn set(
 }
 
 // What EXINCRBY comes to: the sum of the number stored, 0 under an absent key, and the one given.
-fn total(
-    table: &[u8],
-    live: Found,
-    by: i64,
-    min: Bound,
-    max: Bound,
-    non_negative: bool,
-) -> Total
+fn total(table: &[u8], live: Found, by: i64, min: Bound, max: Bound, non_negative: bool) -> Total
     requires { ⌜ Sound (now table) live ⌝ }
     ensures { λ r. ⌜ r ≡ totalFrom (totalOf by (boundOf min) (boundOf max) «non_negative» (valueIn (liveOf (now (table .entry)) live))) ⌝ }
 {
@@ -203,7 +196,16 @@ pub fn swap(
     if version != record::version(live::record_at(table, slot)) {
         return stale(table, slot, reply);
     }
-    let stored = put::store_value(table, time, key, live, value, Change::Raise, expire, Flags::Keep);
+    let stored = put::store_value(
+        table,
+        time,
+        key,
+        live,
+        value,
+        Change::Raise,
+        expire,
+        Flags::Keep,
+    );
     finish(stored, Success::Swap, reply)
 }
 
