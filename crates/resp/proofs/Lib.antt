@@ -5,4 +5,8 @@ pub mod Digits
 pub mod Lines
 pub mod Words
 pub mod Commands
+mod Held
+mod Thin
+mod Through
+mod Forms
 pub mod Vectors

@@ -1,7 +1,9 @@
-// The words of a command in RESP2, taken from a borrowed slice and a place in it.
+// The words of a command in RESP2, taken by a reader that holds the command and a place in it. Each function over a reader takes it apart and
+// calls one on slice and number; `read_word` and `ends_at` stand above them, so that no other function holds a reader.
 ghost use mathlib.Core.Path.{_≡_};
 ghost use Prim.Native.Nat.{_≤_, _<_};
 ghost use lib.ListN.{length, drop};
+ghost use lib.Dec.{leb};
 ghost use Rattle.model.specs.Resp.{commandLimit, decode};
 ghost use Rattle.resp.specs.Words.{digitAt, digitsFrom, numberFrom, endsLine, lineFrom, wordFrom, hasWords, countFrom, firstWord};
 
@@ -25,6 +27,12 @@ pub enum Word {
 pub enum Count {
     Words(usize),
     Malformed,
+}
+
+// A command that is lent, and a place in it.
+pub struct Reader<'a> {
+    pub command: &'a [u8],
+    pub at: usize,
 }
 
 // Whether a digit stands at place `at`.
@@ -118,9 +126,9 @@ pub fn read_line(s: &[u8], at: usize, mark: u8) -> Line
 }
 
 // The bulk string at place `at`: where its bytes begin and end, and the place after it.
-pub fn read_word(s: &[u8], at: usize) -> Word
+fn read_bulk(s: &[u8], at: usize) -> Word
     requires { ⌜ length (now s) ≤ commandLimit ⌝ }
-    ensures { λ r. ⌜ r ≡ wordFrom (now (s .entry)) at ⌝ }
+    ensures { λ w. ⌜ w ≡ wordFrom (now (s .entry)) at ⌝ }
 {
     let Line::Number { value, next } = read_line(s, at, b'$') else {
         return Word::Malformed;
@@ -134,6 +142,52 @@ pub fn read_word(s: &[u8], at: usize) -> Word
         };
     }
     Word::Malformed
+}
+
+// Whether no byte stands at place `at`, nor after it.
+fn is_end(s: &[u8], at: usize) -> bool
+    ensures { λ b. ⌜ b ≡ leb (length (now (s .entry))) at ⌝ }
+{
+    at >= s.len()
+}
+
+impl<'a> Reader<'a> {
+    // The reader at place `at` of a command.
+    pub fn new(command: &'a [u8], at: usize) -> Reader<'a>
+        ensures { λ r. ⌜ (r .command ≡ command .entry) × (r .at ≡ at) ⌝ }
+    {
+        Reader { command, at }
+    }
+
+    // The word at the reader's place; the reader of the word after it stands at `next`.
+    pub fn next_word(self) -> Word
+        requires { ⌜ length (now (self .command)) ≤ commandLimit ⌝ }
+        ensures { λ w. ⌜ w ≡ wordFrom (now (self .entry .command)) (self .entry .at) ⌝ }
+    {
+        read_bulk(self.command, self.at)
+    }
+
+    // Whether no byte is left at the reader's place.
+    pub fn at_end(self) -> bool
+        ensures { λ b. ⌜ b ≡ leb (length (now (self .entry .command))) (self .entry .at) ⌝ }
+    {
+        is_end(self.command, self.at)
+    }
+}
+
+// The word at place `at` of a command: where its bytes begin and end, and the place after it.
+pub fn read_word(s: &[u8], at: usize) -> Word
+    requires { ⌜ length (now s) ≤ commandLimit ⌝ }
+    ensures { λ r. ⌜ r ≡ wordFrom (now (s .entry)) at ⌝ }
+{
+    Reader::new(s, at).next_word()
+}
+
+// Whether a command has no byte at place `at`, nor after it.
+fn ends_at(s: &[u8], at: usize) -> bool
+    ensures { λ r. ⌜ r ≡ leb (length (now (s .entry))) at ⌝ }
+{
+    Reader::new(s, at).at_end()
 }
 
 // Whether `n` bulk strings stand from place `at` on, and nothing after them.
@@ -155,7 +209,7 @@ fn has_words(s: &[u8], at: usize, n: usize) -> bool
         place = next;
         left -= 1;
     }
-    s.len() <= place
+    ends_at(s, place)
 }
 
 // The number of words of a whole command, with nothing after the last.

@@ -44,8 +44,13 @@ loop-again c =
     let t = w .before in
     t .before .loop .inv ∙ words-next _ _ _ (t .loop-test .taken) (word-at _ _ (sym (w .read-word .ensures) ∙ x .next .given .1))
 
+ends-at-requires : tie.Need-ends-at-requires Inv-loop μ-loop
+ends-at-requires c κs = search needs
+
 returns-2 : tie.Need-returns-2 Inv-loop μ-loop
-returns-2 c = sym (c .before .loop .inv ∙ words-end _ _ _ (c .loop-test .left))
+returns-2 c =
+    let t = c .before in
+    c .ends-at .ensures ∙ sym (t .before .loop .inv ∙ words-end _ _ _ (t .loop-test .left))
 
 pub has-words-spec : {M : Type 1} → statement M
 has-words-spec =
@@ -61,4 +66,5 @@ has-words-spec =
     sub-left
     loop-less
     loop-again
+    ends-at-requires
     returns-2)
