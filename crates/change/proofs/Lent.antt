@@ -1,16 +1,17 @@
 -- A slot's part of the table is lent to a record writer and comes back with the bytes of a slot: the table is that of its slots with this one
 -- replaced.
-use Prim.Native.Nat.{ℕ, zero, suc, _+_, _-_, _*_, _≤_, _<_}
+use Prim.Native.Nat.{ℕ, _+_, _-_, _*_, _≤_, _<_}
 use native.Mathlib.Omega.{arith}
-use mathlib.Core.Path.{_≡_, sym, ap, _∙_}
+use mathlib.Core.Path.{_≡_, sym, ap, _∙_, subst}
 use mathlib.Core.Bool.{true, false}
-use mathlib.Core.List.{List, [], _∷_}
+use mathlib.Core.List.{List}
 use mathlib.Core.Option.{some}
 use lib.ListN.{length, getD, getElem?}
 use borrow.Rule.Slice.PartMut.{putMid}
 use Rattle.model.specs.Bytes.{written}
 use Rattle.model.specs.Command.{isSome}
 use Rattle.model.specs.Table.{Slot, Record, empty, used, isEmpty, fields, form128, readTable, recordBytes, slotBytes}
+use Rattle.model.proofs.Basics.{at-getD, at-length}
 use Rattle.slice.proofs.Written.{part-back}
 use Rattle.record.specs.Record.{InUse}
 use Rattle.table.specs.Slots.{slotsOf}
@@ -28,21 +29,10 @@ module _ (t : List ℕ) (ok : isSome (readTable form128 t) ≡ true) (i : ℕ) (
   replaced s r e l =
       let size : length r ≡ 128 = l ∙ lent-length i t inside in
       part-back (i * 128) 128 t r size
-      ∙ (ap (λ (b : List ℕ). written (i * 128) b t) e
-      ∙ sym (table-set form128 t (slotsOf t) i s (table-of t ok .reads) h (ap length (sym e) ∙ size)))
+      ∙ ((λ j. written (i * 128) (e j) (sym (table-of t ok .bytes) j))
+      ∙ sym (table-set form128 (slotsOf t) i s (table-of t ok .kept) h (ap length (sym e) ∙ size)))
 
 -- ---- a slot in use
-
-module _ {A : Type 0} where
-  at-within : (l : List A) (i : ℕ) (a : A) → getElem? l i ≡ some a → i < length l
-  at-within [] i a e = let z : _≡_ {A = ℕ} 0 1 = cc in absurd (omega arith)
-  at-within (x ∷ l) zero a e = omega arith
-  at-within (x ∷ l) (suc i) a e = omega (arith, at-within l i a e)
-
-  at-getD : (l : List A) (i : ℕ) (a d : A) → getElem? l i ≡ some a → getD l i d ≡ a
-  at-getD [] i a d e = let z : _≡_ {A = ℕ} 0 1 = cc in absurd (omega arith)
-  at-getD (x ∷ l) zero a d e = cc
-  at-getD (x ∷ l) (suc i) a d e = at-getD l i a d e
 
 -- for a caller that knows the record at the slot
 module _ (t : List ℕ) (i : ℕ) (r : Record) (e : getElem? (slotsOf t) i ≡ some (used r)) where
@@ -54,7 +44,7 @@ module _ (t : List ℕ) (i : ℕ) (r : Record) (e : getElem? (slotsOf t) i ≡ s
 
 module _ (t : List ℕ) (ok : isSome (readTable form128 t) ≡ true) (i : ℕ) (u : InUseAt t i) where
   pub within : i < length (slotsOf t)
-  within = at-within (slotsOf t) i (used (recordIn t i)) u
+  within = at-length (slotsOf t) i (used (recordIn t i)) u
 
   slot-is : getD (slotsOf t) i empty ≡ used (recordIn t i)
   slot-is = at-getD (slotsOf t) i (used (recordIn t i)) empty u
@@ -70,3 +60,12 @@ module _ (t : List ℕ) (ok : isSome (readTable form128 t) ≡ true) (i : ℕ) (
 
   pub lent-record : lent i t ≡ recordBytes form128 (recordIn t i)
   lent-record = sym (lent-bytes t ok i within) ∙ ap (slotBytes form128) slot-is
+
+  -- there is room for n bytes more in the lent record, as in the slot's
+  pub room : (n : ℕ) → length (recordIn t i .value) + n ≤ 64 → InUse (lent i t) × (length (fields (lent i t) .value) + n ≤ 64)
+  room n h = (in-use, subst (λ (r : Record). length (r .value) + n ≤ 64) (sym lent-fields) h)
+
+  -- the lent record comes back changed by g: so is the slot's
+  pub changed : (g : Record → Record) (b : List ℕ) → b ≡ recordBytes form128 (g (fields (lent i t))) → length b ≡ length (lent i t)
+      → putMid (i * 128) (i * 128 + 128 - i * 128) t b ≡ withSlot t i (used (g (recordIn t i)))
+  changed g b e l = replaced t ok i within (used (g (recordIn t i))) b (e ∙ ap (λ (r : Record). recordBytes form128 (g r)) lent-fields) l

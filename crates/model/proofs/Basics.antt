@@ -5,7 +5,7 @@ use mathlib.Core.List.{List, [], _∷_, _++_}
 use mathlib.Core.Option.{Option, none, some, Option·map}
 use Prim.Native.Nat.{ℕ, zero, suc, _+_, _≤_, _<_}
 use native.Mathlib.Omega.{arith}
-use lib.ListN.{getElem?, set, length}
+use lib.ListN.{getElem?, getD, set, length}
 use lib.Dec.{eqb}
 use borrow.Author.Tests.{eqb-true, eq-eqb}
 use Rattle.model.specs.Bytes.{same, all}
@@ -126,3 +126,12 @@ module _ {A : Type 0} where
   at-length [] i a h = none-some a h
   at-length (x ∷ l) zero a h = omega arith
   at-length (x ∷ l) (suc i) a h = let q = at-length l i a h in omega arith
+
+  -- an element is the one that `getD` gives
+  pub at-within : (l : List A) (i : ℕ) (d : A) → i < length l → getElem? l i ≡ some (getD l i d)
+  at-within [] i d h = absurd (omega arith)
+  at-within (x ∷ l) zero d h = refl
+  at-within (x ∷ l) (suc i) d h = at-within l i d (omega arith)
+
+  pub at-getD : (l : List A) (i : ℕ) (a d : A) → getElem? l i ≡ some a → getD l i d ≡ a
+  at-getD l i a d h = some-eq (sym (at-within l i d (at-length l i a h)) ∙ h)

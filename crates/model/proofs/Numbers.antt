@@ -39,7 +39,7 @@ Lead [] = ⊥
 Lead (c ∷ s) = eqb c 48 ≡ false
 
 -- `digits` goes by whether x has one digit: what holds of both cases holds of it
-by-digits : (P : List ℕ → Type 0) (n x : ℕ) (s : List ℕ) → (x < 10 → P ((48 + x) ∷ s)) → (10 ≤ x → P (digits n (x / 10) ((48 + x % 10) ∷ s)))
+pub by-digits : (P : List ℕ → Type 0) (n x : ℕ) (s : List ℕ) → (x < 10 → P ((48 + x) ∷ s)) → (10 ≤ x → P (digits n (x / 10) ((48 + x % 10) ∷ s)))
     → P (digits (suc n) x s)
 by-digits P n x s small large = go (ltb x 10) refl
   where

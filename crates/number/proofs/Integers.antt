@@ -1,17 +1,18 @@
 -- Signed numbers as differences of two naturals, so that `omega` can do the rest: z is `up z - dn z`, and one of the two is 0.
 -- Assumes nothing.
-use mathlib.Core.Path.{_≡_, refl, sym, ap, _∙_, subst}
+use mathlib.Core.Path.{_≡_, refl, sym, ap, _∙_}
 use Prim.Native.Nat.{ℕ, zero, suc, _+_, _-_, _*_, _^_, _≤_, _<_}
 use native.Mathlib.Nat.{zero-mul}
 use native.Mathlib.Omega.{arith}
 use mathlib.Core.Bool.{Bool, true, false, cond}
 use lib.Dec.{ltb}
-use lib.IntN.{ℤ, pos, negsuc, negℤ, natAbs, subℕ, _+ℤ_, _*ℤ_}
+use lib.IntN.{ℤ, pos, negsuc, negℤ, natAbs, _+ℤ_, _*ℤ_}
 use lib.Signed.{mag, ltZ}
 use mir.Syntax.{w64}
 use mir.Val.{SFits, toZ, ofZ}
 use mir.Facts.{toZ-ofZ}
 use borrow.Author.Tests.{ltb-true, ltb-false}
+use Rattle.model.proofs.Basics.{never}
 
 abbrev pub up : ℤ → ℕ
 up (pos n) = n
@@ -31,14 +32,14 @@ most = pos 9223372036854775807
 -- a test, as a fact on naturals
 pub lt-true : (a b : ℤ) → ltZ a b ≡ true → up a + dn b < up b + dn a
 lt-true (pos a) (pos b) e = omega (arith, ltb-true a b e)
-lt-true (pos a) (negsuc b) e = absurd (subst (λ (t : Bool). cond t ⊥ (Unit {0})) e tt)
+lt-true (pos a) (negsuc b) e = never false e refl
 lt-true (negsuc a) (pos b) e = omega arith
 lt-true (negsuc a) (negsuc b) e = omega (arith, ltb-true b a e)
 
 pub lt-false : (a b : ℤ) → ltZ a b ≡ false → up b + dn a ≤ up a + dn b
 lt-false (pos a) (pos b) e = omega (arith, ltb-false a b e)
 lt-false (pos a) (negsuc b) e = omega arith
-lt-false (negsuc a) (pos b) e = absurd (subst (λ (t : Bool). cond t (Unit {0}) ⊥) e tt)
+lt-false (negsuc a) (pos b) e = never true refl e
 lt-false (negsuc a) (negsuc b) e = omega (arith, ltb-false b a e)
 
 -- the sign, by the test against 0
@@ -59,41 +60,6 @@ pub dn-le : {z : ℤ} → SFits w64 z → dn z ≤ 2 ^ 63
 dn-le {z = pos n} f = omega arith
 dn-le {z = negsuc n} f = f .sfits
 
--- p - q is in a range, or is not
-mag-by : (p q h : ℕ) (t : Bool) → ltb p q ≡ t → p < h + q → q ≤ h + p → mag (cond t (negsuc (q - suc p)) (pos (p - q))) < h
-mag-by p q h true e a b = omega (arith, ltb-true p q e)
-mag-by p q h false e a b = omega (arith, ltb-false p q e)
-
-pub mag-sub : (p q h : ℕ) → p < h + q → q ≤ h + p → mag (subℕ p q) < h
-mag-sub p q h a b = mag-by p q h (ltb p q) refl a b
-
-over-by : (p q h : ℕ) (t : Bool) → ltb p q ≡ t → h + q ≤ p → h ≤ mag (cond t (negsuc (q - suc p)) (pos (p - q)))
-over-by p q h true e a = omega (arith, ltb-true p q e)
-over-by p q h false e a = omega arith
-
-under-by : (p q h : ℕ) (t : Bool) → ltb p q ≡ t → h + p < q → h ≤ mag (cond t (negsuc (q - suc p)) (pos (p - q)))
-under-by p q h true e a = omega arith
-under-by p q h false e a = omega (arith, ltb-false p q e)
-
--- a sum is in a range, is above it, is below it
-pub mag-add : (a b : ℤ) (h : ℕ) → up a + up b < h + (dn a + dn b) → dn a + dn b ≤ h + (up a + up b) → mag (a +ℤ b) < h
-mag-add (pos a) (pos b) h x y = omega arith
-mag-add (pos a) (negsuc b) h x y = mag-sub a (suc b) h (omega arith) (omega arith)
-mag-add (negsuc a) (pos b) h x y = mag-sub b (suc a) h (omega arith) (omega arith)
-mag-add (negsuc a) (negsuc b) h x y = omega arith
-
-pub mag-over : (a b : ℤ) (h : ℕ) → h + (dn a + dn b) ≤ up a + up b → h ≤ mag (a +ℤ b)
-mag-over (pos a) (pos b) h x = omega arith
-mag-over (pos a) (negsuc b) h x = over-by a (suc b) h (ltb a (suc b)) refl (omega arith)
-mag-over (negsuc a) (pos b) h x = over-by b (suc a) h (ltb b (suc a)) refl (omega arith)
-mag-over (negsuc a) (negsuc b) h x = omega arith
-
-pub mag-under : (a b : ℤ) (h : ℕ) → h + (up a + up b) < dn a + dn b → h ≤ mag (a +ℤ b)
-mag-under (pos a) (pos b) h x = omega arith
-mag-under (pos a) (negsuc b) h x = under-by a (suc b) h (ltb a (suc b)) refl (omega arith)
-mag-under (negsuc a) (pos b) h x = under-by b (suc a) h (ltb b (suc a)) refl (omega arith)
-mag-under (negsuc a) (negsuc b) h x = omega arith
-
 -- the sum itself
 up-by : (p q : ℕ) (t : Bool) → ltb p q ≡ t → up (cond t (negsuc (q - suc p)) (pos (p - q))) + q ≡ dn (cond t (negsuc (q - suc p)) (pos (p - q))) + p
 up-by p q true e = omega (arith, ltb-true p q e)
@@ -104,6 +70,25 @@ up-add (pos a) (pos b) = omega arith
 up-add (pos a) (negsuc b) = omega (arith, up-by a (suc b) (ltb a (suc b)) refl)
 up-add (negsuc a) (pos b) = omega (arith, up-by b (suc a) (ltb b (suc a)) refl)
 up-add (negsuc a) (negsuc b) = omega arith
+
+-- what holds of either sign where the parts make the sum holds of the sum
+by-sum : (P : ℤ → Type 0) (a b : ℤ) → ((n : ℕ) → n + (dn a + dn b) ≡ up a + up b → P (pos n)) → ((n : ℕ) → dn a + dn b ≡ suc n + (up a + up b) → P (negsuc n))
+    → P (a +ℤ b)
+by-sum P a b f g = go (a +ℤ b) (up-add a b)
+  where
+    go : (z : ℤ) → up z + (dn a + dn b) ≡ dn z + (up a + up b) → P z
+    go (pos n) e = f n (omega arith)
+    go (negsuc n) e = g n (omega arith)
+
+-- a sum is in a range, is above it, is below it
+pub mag-add : (a b : ℤ) (h : ℕ) → up a + up b < h + (dn a + dn b) → dn a + dn b ≤ h + (up a + up b) → mag (a +ℤ b) < h
+mag-add a b h x y = by-sum (λ (z : ℤ). mag z < h) a b (λ n e. omega arith) (λ n e. omega arith)
+
+pub mag-over : (a b : ℤ) (h : ℕ) → h + (dn a + dn b) ≤ up a + up b → h ≤ mag (a +ℤ b)
+mag-over a b h x = by-sum (λ (z : ℤ). h ≤ mag z) a b (λ n e. omega arith) (λ n e. absurd (omega arith))
+
+pub mag-under : (a b : ℤ) (h : ℕ) → h + (up a + up b) < dn a + dn b → h ≤ mag (a +ℤ b)
+mag-under a b h x = by-sum (λ (z : ℤ). h ≤ mag z) a b (λ n e. absurd (omega arith)) (λ n e. omega arith)
 
 pub up-neg : (z : ℤ) → up (negℤ z) ≡ dn z
 up-neg (pos zero) = refl

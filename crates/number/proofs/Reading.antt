@@ -1,7 +1,7 @@
 -- Laws of the model's reading of numbers: what one digit more says of the whole text, and what the first byte says of the rest.
 -- Assumes nothing.
-use mathlib.Core.Path.{_≡_, refl, sym}
-use mathlib.Core.Bool.{Bool, true, false, cond}
+use mathlib.Core.Path.{_≡_, refl, sym, ap, _∙_}
+use mathlib.Core.Bool.{Bool, true, false, cond, not-eq-not}
 use mathlib.Core.List.{List, [], _∷_}
 use mathlib.Core.Option.{Option, none, some, Option·map}
 use Prim.Native.Nat.{ℕ, zero, suc, _+_, _-_, _*_, _^_, _≤_, _<_}
@@ -9,12 +9,26 @@ use native.Mathlib.Omega.{arith}
 use lib.Dec.{leb, ltb}
 use lib.ListN.{length, getD, drop}
 use lib.IntN.{ℤ, pos, negsuc, negℤ}
-use borrow.Author.Tests.{le-leb, lt-leb, le-ltb, lt-ltb, ne-eqb, leb-true, leb-false, ltb-false}
+use borrow.Author.Tests.{le-leb, lt-leb, le-ltb, lt-ltb, ne-eqb, leb-true, leb-false, ltb-true, ltb-false}
 use Rattle.model.specs.Optional.{_>>=_, only}
 use Rattle.model.specs.Number.{isDigit, readDigits, readPositive, readInt, isSigned, natural, readBelow, readSigned, signedLimit}
+use Rattle.model.proofs.Basics.{only-some, map-some}
 use Rattle.number.specs.Answer.{signedFrom, negativeFrom}
 use Rattle.number.specs.declared.Signed.{Signed}
 use Rattle.number.specs.declared.Signed.the-variants.{Value, Bad}
+
+-- ---- what the answer says of the number read
+
+bad-value {ℓ} : {X : Type ℓ} {z : ℤ} → Bad ≡ Value z → X
+bad-value e = let z : _≡_ {A = ℕ} 0 1 = cc in absurd (omega arith)
+
+pub signed-bad : (o : Option ℤ) → Bad ≡ signedFrom o → o ≡ none
+signed-bad none e = refl
+signed-bad (some z) e = bad-value e
+
+pub signed-value : (o : Option ℤ) (z : ℤ) → Value z ≡ signedFrom o → o ≡ some z
+signed-value none z e = bad-value (sym e)
+signed-value (some y) z e = cc
 
 -- ---- minus a number, as an answer
 
@@ -33,30 +47,19 @@ pub record Negative (o : Option ℕ) (v : ℤ) : Type 0 where
   pub small : n ≤ 2 ^ 63
   pub value : v ≡ negℤ (pos n)
 
-some-negative : (n : ℕ) (t : Bool) → leb n (2 ^ 63) ≡ t → (v : ℤ) → Value v ≡ negativeFrom (some n) → Negative (some n) v
-some-negative n true l v e =
-    let h = leb-true n (2 ^ 63) l in
-    let i = negative-in n h in
-    record { n = n; is = refl; small = h; value = cc }
-some-negative n false l v e =
-    let o = negative-out n (leb-false n (2 ^ 63) l) in
-    let z : _≡_ {A = ℕ} 0 1 = cc in
-    absurd (omega arith)
-
 pub negative : (o : Option ℕ) (v : ℤ) → Value v ≡ negativeFrom o → Negative o v
-negative none v e = let z : _≡_ {A = ℕ} 0 1 = cc in absurd (omega arith)
-negative (some n) v e = some-negative n (leb n (2 ^ 63)) refl v e
+negative o v e =
+    let q = only-some isSigned (Option·map (λ n. negℤ (pos n)) o) v (signed-value _ v e) in
+    let m = map-some (λ n. negℤ (pos n)) o v (q .0) in
+    record { n = m .0; is = m .1; small = size (m .0) (ap isSigned (m .2) ∙ q .1); value = sym (m .2) }
+  where
+    size : (n : ℕ) → isSigned (negℤ (pos n)) ≡ true → n ≤ 2 ^ 63
+    size zero h = omega arith
+    size (suc n) h = ltb-true n (2 ^ 63) h
 
 -- what the answer `Bad` says of it
-out-by : (n : ℕ) (t : Bool) → leb n (2 ^ 63) ≡ t → Bad ≡ negativeFrom (some n) → 2 ^ 63 < n
-out-by n true l e =
-    let i = negative-in n (leb-true n (2 ^ 63) l) in
-    let z : _≡_ {A = ℕ} 0 1 = cc in
-    absurd (omega arith)
-out-by n false l e = leb-false n (2 ^ 63) l
-
 pub out : (n : ℕ) → Bad ≡ negativeFrom (some n) → 2 ^ 63 < n
-out n e = out-by n (leb n (2 ^ 63)) refl e
+out n e = leb-false n (2 ^ 63) (not-eq-not .0 (λ l. bad-value (e ∙ negative-in n (leb-true n (2 ^ 63) l))))
 
 -- ---- digits
 
@@ -145,15 +148,6 @@ text-plain (c ∷ []) n e z = simp (ne-eqb c 45 e, ne-eqb c 48 (z refl))
 text-plain (c ∷ d ∷ s) n e z = simp (ne-eqb c 45 e)
 
 -- ---- natural numbers below a limit
-
--- what the answer says of the number read
-pub signed-bad : (o : Option ℤ) → Bad ≡ signedFrom o → o ≡ none
-signed-bad none e = refl
-signed-bad (some z) e = let z : _≡_ {A = ℕ} 0 1 = cc in absurd (omega arith)
-
-pub signed-value : (o : Option ℤ) (z : ℤ) → Value z ≡ signedFrom o → o ≡ some z
-signed-value none z e = let z : _≡_ {A = ℕ} 0 1 = cc in absurd (omega arith)
-signed-value (some y) z e = cc
 
 -- below a limit in the signed range, the signed range is no further test
 module _ (limit : ℕ) (h : limit ≤ signedLimit) where

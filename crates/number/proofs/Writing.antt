@@ -10,9 +10,10 @@ use native.Mathlib.Numerals.{add-one}
 use lib.Dec.{ltb}
 use lib.ListN.{length, drop, set, length-set, length-append}
 use lib.Seq.{drop-cons, getD-set-same, drop-set-lt, take-set-le, take-suc-set}
-use borrow.Author.Tests.{lt-ltb, le-ltb, ltb-true, ltb-false}
+use borrow.Author.Tests.{lt-ltb, le-ltb}
 use Rattle.model.specs.Bytes.{written}
 use Rattle.model.specs.Number.{digits, natText}
+use Rattle.model.proofs.Numbers.{by-digits}
 use Rattle.number.specs.Wrote.{Wrote}
 
 -- ---- decimal text
@@ -64,32 +65,17 @@ split {x} r h = rw (r .is) (split-by (r .fuel) x h (r .low))
 digits-some : (f x : ℕ) (s : List ℕ) → length s ≤ length (digits f x s)
 digits-some f x s = rw (digits-before f x s, length-append) (omega arith)
 
-some-by : (x : ℕ) (a : List ℕ) (t : Bool) → 1 ≤ length a → 1 ≤ length (cond t ((48 + x) ∷ []) a)
-some-by x a true h = omega arith
-some-by x a false h = h
-
 pub text-some : {x : ℕ} {t : List ℕ} → Text x t → 1 ≤ length t
-text-some {x} r = rw (r .is) (some-by x _ (ltb x 10) (digits-some (r .fuel) (x / 10) ((48 + x % 10) ∷ [])))
+text-some {x} r =
+    rw (r .is) (by-digits (λ (l : List ℕ). 1 ≤ length l) (r .fuel) x [] (λ l. omega arith) (λ l. digits-some (r .fuel) (x / 10) ((48 + x % 10) ∷ [])))
 
--- powers of ten bound the length
+-- a power of ten bounds the length
 pub text-longer : (k : ℕ) {x : ℕ} {t : List ℕ} → Text x t → 10 ^ k ≤ x → k < length t
 text-longer zero r h = text-some r
 text-longer (suc k) {x} r h =
     let e = pow-succ' 10 k in
     let p = split r (omega (arith, one-le-pow k 10 (omega arith))) in
     omega (arith, text-longer k (p .text) (omega arith), simp length-append at (ap length (p .is)))
-
-shorter-by : (k x : ℕ) {t : List ℕ} → Text x t → (b : Bool) → ltb x 10 ≡ b → ((p : Split x t) → length (p .front) ≤ k) → length t ≤ suc k
-shorter-by k x r true e rest = omega (arith, ap length (one-digit r (ltb-true x 10 e)))
-shorter-by k x r false e rest =
-    let p = split r (ltb-false x 10 e) in
-    omega (arith, rest p, simp length-append at (ap length (p .is)))
-
-pub text-shorter : (k : ℕ) {x : ℕ} {t : List ℕ} → Text x t → 1 ≤ k → x < 10 ^ k → length t ≤ k
-text-shorter zero r s h = absurd (omega arith)
-text-shorter (suc zero) r s h = omega (arith, ap length (one-digit r h))
-text-shorter (suc (suc k)) {x} r s h =
-    shorter-by (suc k) x r (ltb x 10) refl (λ p. text-shorter (suc k) (p .text) (omega arith) (omega (arith, pow-succ' 10 (suc k))))
 
 -- ---- a text written over a buffer
 

@@ -1,6 +1,6 @@
 -- Whether bytes are a record in use, by tests of bytes 0 to 23 and of the zeros after key and value.
-use mathlib.Core.Path.{_≡_, refl, sym, ap, _∙_}
-use mathlib.Core.Bool.{Bool, true, false, _&&_}
+use mathlib.Core.Path.{_≡_, sym, ap, _∙_}
+use mathlib.Core.Bool.{Bool, true, false, _&&_, not-eq-not}
 use mathlib.Core.List.{List, [], _∷_, _++_}
 use Prim.Native.Nat.{ℕ, _+_, _-_, _^_, _≤_, _<_}
 use native.Mathlib.Omega.{arith}
@@ -9,11 +9,12 @@ use lib.Seq.{drop-at, take-all}
 use borrow.Author.Tests.{ltb-true, leb-true, eqb-true, le-leb, lt-ltb, eq-eqb}
 use Rattle.model.specs.Bytes.{same, part, padded}
 use Rattle.model.specs.Table.{form128, recordBytes, fields, isRecord}
+use Rattle.model.proofs.Basics.{every}
 use Rattle.slice.proofs.Equal.{never, and-left, and-right, test-eq, same-true, same-refl}
 use Rattle.slice.proofs.Written.{length-part, part-add, part-is-bytes, bytesFrom}
 use Rattle.slice.proofs.LittleEndian.{Bytes, littleEndian-part, part-bound}
 use Rattle.record.specs.Record.{InUse, head, headRules, isHead}
-use Rattle.record.proofs.Pieces.{InRange, every, headOf, pieces, part-key, part-value}
+use Rattle.record.proofs.Pieces.{InRange, headOf, pieces, part-key, part-value}
 use Rattle.record.proofs.Reading.{IsRecord, isRecord-true, is-isRecord, first-used, in-use-record}
 
 -- ---- zeros after a text
@@ -116,19 +117,19 @@ module _ (b : List ℕ) (h : IsRecord b) where
   pub head-is : HeadIs b
   head-is = record {
     first = first-used b h;
-    key-from = omega (arith, key-length, h .range .key-from);
-    key-to = omega (arith, key-length, h .range .key-to);
-    value-to = omega (arith, value-length, h .range .value-to);
+    key-from = omega (arith, key-length, h .kept .key-from);
+    key-to = omega (arith, key-length, h .kept .key-to);
+    value-to = omega (arith, value-length, h .kept .value-to);
     mark = mark-is;
-    version-to = h .range .version-to;
-    expiry-to = h .range .expiry-to;
+    version-to = h .kept .version-to;
+    expiry-to = h .kept .expiry-to;
   }
 
   key-part : part 24 24 b ≡ padded 24 (fields b .key)
-  key-part = ap (part 24 24) (sym (h .bytes)) ∙ part-key (fields b) (h .range .key-to) (h .range .value-to)
+  key-part = ap (part 24 24) (sym (h .bytes)) ∙ part-key (fields b) (h .kept .key-to)
 
   value-part : part 48 80 b ≡ padded 80 (fields b .value)
-  value-part = ap (part 48 80) (sym (h .bytes)) ∙ part-value (fields b) (h .range .key-to) (h .range .value-to)
+  value-part = ap (part 48 80) (sym (h .bytes)) ∙ part-value (fields b) (h .kept)
 
 module _ (b : List ℕ) (size : length b ≡ 128) where
   -- the tests from left to right
@@ -170,18 +171,14 @@ module _ (b : List ℕ) (size : length b ≡ 128) where
     backward z =
         let k = zeros-padded 24 24 (getD b 1 0) b (omega arith) (hd .key-to) (and-left (isZeros (keyRest b)) _ z) in
         let v = zeros-padded 48 80 (getD b 2 0) b (omega arith) (omega (arith, hd .value-to)) (and-right (isZeros (keyRest b)) _ z) in
-        record { range = range-is; bytes = rw (pieces (fields b) (range-is .value-to), head-part, ← k, ← v) whole }
+        record { kept = range-is; bytes = rw (pieces (fields b) (range-is .value-to), head-part, ← k, ← v) whole }
 
     pub isRecord-rests : isRecord form128 b ≡ isZeros (keyRest b) && isZeros (valueRest b)
     isRecord-rests = test-eq _ _ (λ e. forward (isRecord-true b e)) (λ z. is-isRecord b (backward z))
 
 -- bytes 0 to 23 alone refuse it
 pub isRecord-head : (b : List ℕ) → isHead b ≡ false → isRecord form128 b ≡ false
-isRecord-head b n = by-test (isRecord form128 b) refl
-  where
-    by-test : (t : Bool) → isRecord form128 b ≡ t → isRecord form128 b ≡ false
-    by-test true e = never (isHead b) (is-isHead b (head-is b (isRecord-true b e))) n
-    by-test false e = e
+isRecord-head b n = not-eq-not .0 (λ e. never (isHead b) (is-isHead b (head-is b (isRecord-true b e))) n)
 
 pub in-use-head : (b : List ℕ) → InUse b → HeadIs b
 in-use-head b h = head-is b (in-use-record b h)

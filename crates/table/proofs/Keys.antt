@@ -3,13 +3,12 @@
 use Prim.Native.Nat.{ℕ, zero, suc, _+_, _*_, _%_, _≤_, _<_}
 use native.Mathlib.Omega.{arith}
 use mathlib.Core.Path.{_≡_, refl, ap, _∙_}
-use mathlib.Core.Bool.{Bool, true, false, _&&_}
+use mathlib.Core.Bool.{Bool, true, false, and-false}
 use mathlib.Core.List.{List, [], _∷_}
 use lib.ListN.{length, drop, set, getD, length-set, drop-of-length-le}
 use lib.Seq.{drop-cons}
-use Rattle.model.specs.Bytes.{same}
 use Rattle.model.specs.Table.{Slot, Record, empty, used, isEmpty, anyHolds, unlike, distinct}
-use Rattle.slice.proofs.Equal.{never, same-true}
+use Rattle.slice.proofs.Equal.{never, ne-same}
 use Rattle.table.specs.Hash.{entries, hashFrom, hashOf}
 
 -- ---- slots from the i-th on
@@ -20,10 +19,6 @@ unfolding distinct
 distinct-part ss zero e = e
 distinct-part [] (suc i) e = e
 distinct-part (s ∷ ss) (suc i) e = rw (distinct-part ss i e) (and-false (unlike s ss))
-  where
-    and-false : (a : Bool) → a && false ≡ false
-    and-false true = refl
-    and-false false = refl
 
 -- a key that a later slot has too; the slots after the i-th begin at `next`
 pub distinct-held : (ss : List Slot) (i next : ℕ) (r : Record) → i < length ss → next ≡ suc i → getD ss i empty ≡ used r
@@ -46,11 +41,8 @@ Marked m (used r ∷ ss) = (getD m (hashOf (r .key)) false ≡ true) × Marked m
 pub not-marked : (m : List Bool) (k : List ℕ) (ss : List Slot) → Marked m ss → getD m (hashOf k) false ≡ false → anyHolds k ss ≡ false
 not-marked m k [] h e = refl
 not-marked m k (empty ∷ ss) h e = not-marked m k ss h e
-not-marked m k (used r ∷ ss) h e = rw (other (same k (r .key)) refl) (not-marked m k ss (h .1) e)
-  where
-    other : (b : Bool) → same k (r .key) ≡ b → same k (r .key) ≡ false
-    other true q = never (getD m (hashOf k) false) (ap (λ (x : List ℕ). getD m (hashOf x) false) (same-true k (r .key) q) ∙ h .0) e
-    other false q = q
+not-marked m k (used r ∷ ss) h e =
+    rw (ne-same k (r .key) (λ q. never (getD m (hashOf k) false) (ap (λ (x : List ℕ). getD m (hashOf x) false) q ∙ h .0) e)) (not-marked m k ss (h .1) e)
 
 mark-stays : (m : List Bool) (i j : ℕ) → getD m i false ≡ true → getD (set m j true) i false ≡ true
 mark-stays [] i j e = e

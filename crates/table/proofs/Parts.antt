@@ -2,17 +2,18 @@
 -- says of the part it says of slot i.
 use Prim.Native.Nat.{ℕ, _+_, _-_, _*_, _/_, _≤_, _<_}
 use native.Mathlib.Omega.{arith}
-use mathlib.Core.Path.{_≡_, ap, _∙_}
+use mathlib.Core.Path.{_≡_, sym, ap, _∙_}
 use mathlib.Core.Bool.{true, false}
 use mathlib.Core.List.{List}
 use mathlib.Core.Option.{Option, some, Option·getD}
 use lib.ListN.{length, take, drop, getD}
 use Rattle.model.specs.Table.{Slot, empty, used, isEmpty, fields, form128, readTable, readSlot, slotBytes, recordAt}
 use Rattle.model.specs.Command.{isSome}
+use Rattle.model.proofs.Records.{in-use-readSlot}
 use Rattle.slice.proofs.Written.{length-part, part-is}
 use Rattle.record.specs.Record.{slotOf, Readable, InUse}
 use Rattle.table.specs.Slots.{slotsOf}
-use Rattle.table.proofs.Records.{table-length, slot-at, was-read}
+use Rattle.table.proofs.Records.{table-length, slot-bytes, slot-at}
 
 -- the part that is lent for record i
 abbrev pub lent : ℕ → List ℕ → List ℕ
@@ -39,14 +40,14 @@ module _ (t : List ℕ) (ok : isSome (readTable form128 t) ≡ true) where
     lent-slot = ap (λ (o : Option Slot). Option·getD o empty) read
 
     pub lent-bytes : slotBytes form128 (getD (slotsOf t) i empty) ≡ lent i t
-    lent-bytes = was-read form128 (lent i t) (getD (slotsOf t) i empty) read .bytes
+    lent-bytes = rw (lent-is i t) (sym (slot-bytes t ok i h))
 
     pub lent-readable : Readable (lent i t)
     lent-readable = record { size = size; read = ap isSome read }
 
     module _ (u : isEmpty (getD (slotsOf t) i empty) ≡ false) where
       pub slot-used : getD (slotsOf t) i empty ≡ used (fields (lent i t))
-      slot-used = was-read form128 (lent i t) (getD (slotsOf t) i empty) read .in-use u
+      slot-used = in-use-readSlot form128 (lent i t) (getD (slotsOf t) i empty) read u
 
       pub lent-in-use : InUse (lent i t)
       lent-in-use = record { size = size; read = read ∙ ap {B = Option Slot} some slot-used }

@@ -7,13 +7,14 @@ use native.Mathlib.Omega.{arith}
 use mathlib.Core.Path.{_≡_, refl, sym, ap, _∙_}
 use mathlib.Core.Bool.{Bool, true, false, cond, _||_}
 use mathlib.Core.List.{List, [], _∷_}
-use mathlib.Core.Option.{Option, none, some, Option·map}
+use mathlib.Core.Option.{Option, none, some, Option·map, map-map}
 use lib.ListN.{length, drop, getD, drop-of-length-le}
 use lib.Seq.{drop-cons}
 use Rattle.model.specs.Bytes.{same}
 use Rattle.model.specs.Optional.{orElse}
 use Rattle.model.specs.Table.{Slot, empty, used, Found as Hit, oneOn, findKey, holds, anyHolds, lowest, isEmpty, isExpired, slotFor}
 use Rattle.model.specs.Command.{isSome}
+use Rattle.model.proofs.Search.{slotFor-own}
 use Rattle.table.specs.Slots.{foundFrom, keySlot, lowestFrom}
 use Rattle.table.specs.declared.Found.the-variants.{At, Nothing}
 
@@ -50,8 +51,7 @@ abbrev number : Hit → ℕ
 number o = o .at
 
 one-on : (o : Option Hit) → Option·map number (Option·map oneOn o) ≡ Option·map suc (Option·map number o)
-one-on none = refl
-one-on (some x) = refl
+one-on o = map-map number oneOn o ∙ sym (map-map suc number o)
 
 -- the search for a key is the search for the lowest slot that holds it
 pub key-lowest : (k : List ℕ) (ss : List Slot) → keySlot k ss ≡ lowest (holds k) ss
@@ -109,12 +109,9 @@ module _ (now : ℕ) (k : List ℕ) (ss : List Slot) where
   abbrev free : Option ℕ
   free = orElse (lowest isEmpty ss) (lowest (isExpired now) ss)
 
-  by-key : (o : Option ℕ) → keySlot k ss ≡ o → slotFor now k ss ≡ orElse o free
-  unfolding slotFor
-  by-key o e = ap (λ (x : Option ℕ). orElse x free) (sym (key-lowest k ss) ∙ e)
-
   pub slot-own : (i : ℕ) → foundFrom (keySlot k ss) ≡ At i → foundFrom (slotFor now k ss) ≡ At i
-  slot-own i e = ap foundFrom (by-key (some i) (found-at (keySlot k ss) i e))
+  slot-own i e = ap foundFrom (slotFor-own now k ss i (sym (key-lowest k ss) ∙ found-at (keySlot k ss) i e))
 
   pub slot-free : foundFrom (keySlot k ss) ≡ Nothing → slotFor now k ss ≡ free
-  slot-free e = by-key none (found-nothing (keySlot k ss) e)
+  unfolding slotFor
+  slot-free e = rw (sym (key-lowest k ss) ∙ found-nothing (keySlot k ss) e)

@@ -1,13 +1,11 @@
 -- `change::prepend` meets its contract: the fields of the lent record are those of the record at the slot.
 use Prim.Native.Nat.{_+_, _*_, _≤_}
 use native.Mathlib.Omega.{arith}
-use mathlib.Core.Path.{sym, ap, _∙_, subst}
 use mathlib.Core.List.{_++_}
 use lib.ListN.{length}
 use borrow.Author.Needs.{needs}
-use Rattle.model.specs.Table.{Record, form128, recordBytes}
 use Rattle.record.specs.Record.{withValue}
-use Rattle.change.proofs.Lent.{inside, replaced, within, in-use, lent-fields}
+use Rattle.change.proofs.Lent.{inside, within, room, changed}
 use Rattle.change.proofs.prepend.Statement.{statement}
 use Rattle.change.proofs.prepend.Tie as tie
 
@@ -33,12 +31,7 @@ part-prepend-end c = omega (arith, within-table (c .before .before))
 prepend-requires : tie.Need-prepend-requires
 prepend-requires c κs =
     let s = c .before .before .before in
-    let t = s .args .table .now in
-    let i = s .args .slot in
-    let u = s .pre .1 .0 in (
-      in-use t (s .pre .0) i u,
-      subst (λ (r : Record). length (r .value) + length (s .args .s .now) ≤ 64) (sym (lent-fields t (s .pre .0) i u)) (s .pre .1 .1),
-    )
+    room (s .args .table .now) (s .pre .0) (s .args .slot) (s .pre .1 .0) (length (s .args .s .now)) (s .pre .1 .1)
 
 same-length : tie.Need-same-length
 same-length c = search needs
@@ -46,13 +39,8 @@ same-length c = search needs
 returns : tie.Need-returns
 returns c =
     let w = c .before .before in
-    let s = c .before .before .before .before .before .before in
-    let t = s .args .table .now in
-    let i = s .args .slot in
-    let u = s .pre .1 .0 in
-    replaced t (s .pre .0) i (within t (s .pre .0) i u) _ (w .prepend .last .0)
-    (w .prepend .ensures ∙ ap (λ (r : Record). recordBytes form128 (withValue (s .args .s .now ++ r .value) r)) (lent-fields t (s .pre .0) i u))
-    (w .prepend .kept .0)
+    let s = w .before .before .before .before in
+    changed (s .args .table .now) (s .pre .0) (s .args .slot) (s .pre .1 .0) (λ r. withValue (s .args .s .now ++ r .value) r) (w .prepend .last .0) (w .prepend .ensures) (w .prepend .kept .0)
 
 pub prepend-spec : {M : Type 1} → statement M
 prepend-spec =

@@ -1,6 +1,6 @@
 -- `number::count_digits` meets its contract. The invariant: the power is that of k, and n has k digits or more.
 -- Assumes nothing.
-use Prim.Native.Nat.{ℕ, _+_, _-_, _*_, _^_, _≤_, _<_}
+use Prim.Native.Nat.{ℕ, suc, _+_, _-_, _*_, _^_, _≤_, _<_}
 use native.Mathlib.Nat.{pow-suc, pow-le-pow-right, eq-or-lt-of-le}
 use native.Mathlib.Numerals.{add-one}
 use native.Mathlib.Omega.{arith}
@@ -8,7 +8,8 @@ use mathlib.Core.Path.{_≡_, refl}
 use mathlib.Core.Logic.{⊎-elim}
 use lib.ListN.{length}
 use Rattle.model.specs.Number.{natText}
-use Rattle.number.proofs.Writing.{text-of, text-some, text-longer, text-shorter}
+use Rattle.model.proofs.Numbers.{length-natText}
+use Rattle.number.proofs.Writing.{text-of, text-some, text-longer}
 use Rattle.number.proofs.count_digits.Statement.{statement}
 use Rattle.number.proofs.count_digits.Tie as tie
 
@@ -26,7 +27,7 @@ module _ {n k power : ℕ} (c : Counting n k power) where
 
   -- the last power of ten that fits
   most : power ≤ n → k + 1 ≡ 20 → k + 1 ≡ length (natText n)
-  most h e = omega (arith, longer h, text-shorter 20 (text-of n (c .fits)) (omega arith) (omega (arith, c .fits)))
+  most h e = omega (arith, longer h, length-natText 19 n (omega (arith, c .fits)))
 
   fewer : (k + 1 ≡ 20 → ⊥) → k + 1 < 20
   fewer e = ⊎-elim (λ x. absurd (e x)) (λ l. l) (eq-or-lt-of-le {n = k + 1} (omega (arith, c .few)))
@@ -45,7 +46,9 @@ module _ {n k power : ℕ} (c : Counting n k power) where
       }
 
   last : n < power → k ≡ length (natText n)
-  last h = omega (arith, c .counted, text-shorter k (text-of n (c .fits)) (c .some) (rw (← c .is) h))
+  last h =
+      let e : suc (k - 1) ≡ k = omega (arith, c .some) in
+      omega (arith, c .counted, e, length-natText (k - 1) n (rw (e, ← c .is) h))
 
 abbrev Inv-loop : tie.InvT-loop
 Inv-loop n k₀ power₀ k power = Counting n k power

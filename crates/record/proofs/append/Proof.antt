@@ -53,7 +53,7 @@ returns c =
     let s = copied .before .before .before .before .before in
     let b = s .args .r .now in
     let h = in-use-record b (s .pre .0) in
-    rw (copied .copy .ensures) (appended (fields b) (h .range) b _ (s .args .s .now) (h .bytes) (value-length b h) (s .pre .1))
+    rw (copied .copy .ensures) (appended (fields b) (h .kept) b _ (s .args .s .now) (h .bytes) (value-length b h) (s .pre .1))
 
 pub append-spec : {M : Type 1} → statement M
 append-spec =

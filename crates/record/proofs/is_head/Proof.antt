@@ -1,5 +1,5 @@
 -- `record::is_head` meets its contract: its tests are the definition's.
-use Rattle.slice.proofs.Equal.{and-true}
+use mathlib.Core.Bool.{and-true}
 use Rattle.record.specs.Record.{isHead}
 use borrow.Author.Needs.{needs}
 use Rattle.record.proofs.is_head.Statement.{statement}

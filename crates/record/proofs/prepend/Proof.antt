@@ -21,7 +21,7 @@ prepended : (r : Record) → InRange r → (b : List ℕ) (n : ℕ) (s moved : L
     → length (r .value) + length s ≤ 64 → length moved ≡ 80 → moved ≡ written (length s) (take n (part 48 80 b)) (part 48 80 b)
     → set (written 48 s (putMid 48 80 b moved)) 2 (n + length s) ≡ recordBytes form128 (withValue (s ++ r .value) r)
 prepended r h b n s moved eb en fits len e =
-    let p : part 48 80 b ≡ padded 80 (r .value) = ap (part 48 80) (sym eb) ∙ part-value r (h .key-to) (h .value-to) in
+    let p : part 48 80 b ≡ padded 80 (r .value) = ap (part 48 80) (sym eb) ∙ part-value r h in
     let m : moved ≡ written (length s) (take (length (r .value)) (padded 80 (r .value))) (padded 80 (r .value)) = e ∙ rw (p, en) in
     rw (part-back 48 80 b moved len, ← eb, en) (prepend-written r (h .key-to) s fits moved len m)
 
@@ -73,7 +73,7 @@ returns c =
     let s = moved .before .before .before .before .before in
     let b = s .args .r .now in
     let h = in-use-record b (s .pre .0) in
-    rw (copied .copy .ensures) (prepended (fields b) (h .range) b _ (s .args .s .now) _ (h .bytes) (value-length b h) (s .pre .1) (moved .move-up .kept .0 ∙ length-part 48 80 b (omega (arith, s .pre .0))) (moved .move-up .ensures))
+    rw (copied .copy .ensures) (prepended (fields b) (h .kept) b _ (s .args .s .now) _ (h .bytes) (value-length b h) (s .pre .1) (moved .move-up .kept .0 ∙ length-part 48 80 b (omega (arith, s .pre .0))) (moved .move-up .ensures))
 
 pub prepend-spec : {M : Type 1} → statement M
 prepend-spec =

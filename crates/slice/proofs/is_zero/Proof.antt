@@ -3,9 +3,9 @@ use Prim.Native.Nat.{ℕ, zero, suc, _+_, _-_, _≤_, _<_}
 use native.Mathlib.Nat.{sub-zero}
 use native.Mathlib.Numerals.{add-one}
 use native.Mathlib.Omega.{arith}
-use mathlib.Core.Path.{_≡_, refl, sym, _∙_}
+use mathlib.Core.Path.{_≡_, sym, _∙_}
 use mathlib.Core.List.{List}
-use mathlib.Core.Bool.{Bool, true, false, _&&_}
+use mathlib.Core.Bool.{Bool, _&&_, and-true, and-assoc}
 use lib.Bits.{bitOr, or-zero-l, or-add-and, and-le-r}
 use lib.Dec.{eqb, eqb·suc-zero}
 use lib.ListN.{length, drop, getD, replicate, drop-of-length-le}
@@ -13,13 +13,8 @@ use lib.Seq.{drop-cons}
 use borrow.Author.Needs.{needs}
 use borrow.Author.Tests.{ne-eqb}
 use Rattle.model.specs.Bytes.{same}
-use Rattle.slice.proofs.Equal.{and-true}
 use Rattle.slice.proofs.is_zero.Statement.{statement}
 use Rattle.slice.proofs.is_zero.Tie as tie
-
-and-assoc : (t u v : Bool) → (t && u) && v ≡ t && (u && v)
-and-assoc true u v = refl
-and-assoc false u v = refl
 
 or-is-zero : (x y : ℕ) → eqb (bitOr x y) 0 ≡ eqb x 0 && eqb y 0
 or-is-zero zero y = rw (or-zero-l y)
