@@ -22,6 +22,39 @@ module _ (f : Form) (now : ℕ) (ss : List Slot) where
   unfolding execute
   on-found c o e = ap (λ (o : Option Found). executeOn f now ss o c) e
 
+  -- ---- NX and XX come before VER
+
+  module _ (k : List ℕ) (p : Presence) (o : Option Found) (e : findLive now k ss ≡ o) (forbidden : allowed p o ≡ false) where
+    pub exset-nil : (v : List ℕ) (c : Change) (x : Expire) (g : ℕ) (w : Bool) → execute f now ss (exset k v p c x g w) ≡ ok (answer (one nil))
+    exset-nil v c x g w = on-found (exset k v p c x g w) o e ∙ rw forbidden
+
+    pub exincrby-nil : (z : ℤ) (c : Change) (x : Expire) (min max : Option ℤ) (nn w : Bool)
+        → execute f now ss (exincrby k z p c x min max nn w) ≡ ok (answer (one nil))
+    exincrby-nil z c x min max nn w = on-found (exincrby k z p c x min max nn w) o e ∙ rw forbidden
+
+    pub exjoin-nil : (end : End) (v : List ℕ) (c : Change) → execute f now ss (exjoin end k v p c) ≡ ok (answer (one nil))
+    exjoin-nil end v c = on-found (exjoin end k v p c) o e ∙ rw forbidden
+
+  -- ---- VER is ignored on an absent key
+
+  module _ (k : List ℕ) (p : Presence) (n : ℕ) (e : findLive now k ss ≡ none) where
+    pub exset-absent : (v : List ℕ) (x : Expire) (g : ℕ) (w : Bool)
+        → execute f now ss (exset k v p (raise (some n)) x g w) ≡ execute f now ss (exset k v p (raise none) x g w)
+    exset-absent v x g w = on-found (exset k v p (raise (some n)) x g w) none e ∙ sym (on-found (exset k v p (raise none) x g w) none e)
+
+    pub exincrby-absent : (z : ℤ) (x : Expire) (min max : Option ℤ) (nn w : Bool)
+        → execute f now ss (exincrby k z p (raise (some n)) x min max nn w) ≡ execute f now ss (exincrby k z p (raise none) x min max nn w)
+    exincrby-absent z x min max nn w =
+        on-found (exincrby k z p (raise (some n)) x min max nn w) none e ∙ sym (on-found (exincrby k z p (raise none) x min max nn w) none e)
+
+    pub exjoin-absent : (end : End) (v : List ℕ) → execute f now ss (exjoin end k v p (raise (some n))) ≡ execute f now ss (exjoin end k v p (raise none))
+    exjoin-absent end v = on-found (exjoin end k v p (raise (some n))) none e ∙ sym (on-found (exjoin end k v p (raise none)) none e)
+
+  -- ---- a version at its top is refused and never wraps
+
+  pub top-refused : (ver : Option ℕ) (o : Found) → versionLimit ≤ suc (o .rec .version) → versionAfter (raise ver) (some o) ≡ refuse 15
+  top-refused ver o h = rw (le-ltb (suc (o .rec .version)) versionLimit h)
+
   -- ---- a write to a live record raises its version by one, whatever text it stores
 
   -- an effect stores a record, if any, with the version n
@@ -82,36 +115,3 @@ module _ (f : Form) (now : ℕ) (ss : List Slot) where
         either : (b : Bool) → Comes Any (Stores (suc (o .rec .version))) (cond b (write f now ss k (some o) (swapping v x)) (ok (answer (staleReply (o .rec)))))
         either true = write-version k (some o) (swapping v x) (suc (o .rec .version)) (rises (o .rec .version))
         either false = tt
-
-  -- ---- a version at its top is refused and never wraps
-
-  pub top-refused : (ver : Option ℕ) (o : Found) → versionLimit ≤ suc (o .rec .version) → versionAfter (raise ver) (some o) ≡ refuse 15
-  top-refused ver o h = rw (le-ltb (suc (o .rec .version)) versionLimit h)
-
-  -- ---- NX and XX come before VER
-
-  module _ (k : List ℕ) (p : Presence) (o : Option Found) (e : findLive now k ss ≡ o) (forbidden : allowed p o ≡ false) where
-    pub exset-nil : (v : List ℕ) (c : Change) (x : Expire) (g : ℕ) (w : Bool) → execute f now ss (exset k v p c x g w) ≡ ok (answer (one nil))
-    exset-nil v c x g w = on-found (exset k v p c x g w) o e ∙ rw forbidden
-
-    pub exincrby-nil : (z : ℤ) (c : Change) (x : Expire) (min max : Option ℤ) (nn w : Bool)
-        → execute f now ss (exincrby k z p c x min max nn w) ≡ ok (answer (one nil))
-    exincrby-nil z c x min max nn w = on-found (exincrby k z p c x min max nn w) o e ∙ rw forbidden
-
-    pub exjoin-nil : (end : End) (v : List ℕ) (c : Change) → execute f now ss (exjoin end k v p c) ≡ ok (answer (one nil))
-    exjoin-nil end v c = on-found (exjoin end k v p c) o e ∙ rw forbidden
-
-  -- ---- VER is ignored on an absent key
-
-  module _ (k : List ℕ) (p : Presence) (n : ℕ) (e : findLive now k ss ≡ none) where
-    pub exset-absent : (v : List ℕ) (x : Expire) (g : ℕ) (w : Bool)
-        → execute f now ss (exset k v p (raise (some n)) x g w) ≡ execute f now ss (exset k v p (raise none) x g w)
-    exset-absent v x g w = on-found (exset k v p (raise (some n)) x g w) none e ∙ sym (on-found (exset k v p (raise none) x g w) none e)
-
-    pub exincrby-absent : (z : ℤ) (x : Expire) (min max : Option ℤ) (nn w : Bool)
-        → execute f now ss (exincrby k z p (raise (some n)) x min max nn w) ≡ execute f now ss (exincrby k z p (raise none) x min max nn w)
-    exincrby-absent z x min max nn w =
-        on-found (exincrby k z p (raise (some n)) x min max nn w) none e ∙ sym (on-found (exincrby k z p (raise none) x min max nn w) none e)
-
-    pub exjoin-absent : (end : End) (v : List ℕ) → execute f now ss (exjoin end k v p (raise (some n))) ≡ execute f now ss (exjoin end k v p (raise none))
-    exjoin-absent end v = on-found (exjoin end k v p (raise (some n))) none e ∙ sym (on-found (exjoin end k v p (raise none)) none e)
