@@ -1,0 +1,240 @@
+// The commands that write a value: what each gives back, by the slot of the live record with its key.
+use access::Answer;
+use command::Bound;
+use command::Change;
+use command::End;
+use command::Expire;
+use command::Presence;
+use count::Total;
+use live::Flags;
+use put::Stored;
+use table::Found;
+ghost use mathlib.Core.Path.{_≡_};
+ghost use mathlib.Core.Bool.{true};
+ghost use Prim.Native.Nat.{_≤_, _<_};
+ghost use lib.ListN.{length};
+ghost use Rattle.model.specs.Checked.{ok};
+ghost use Rattle.model.specs.Number.{versionLimit};
+ghost use Rattle.model.specs.Table.{form128, readTable};
+ghost use Rattle.model.specs.Command.{isSome, exset, exincrby, excas, exjoin};
+ghost use Rattle.model.specs.Execute.{answer, staleReply, valueIn, allowed, agrees};
+ghost use Rattle.model.proofs.Commands.{ChangeOk};
+ghost use Rattle.command.specs.Command.{presenceOf, changeOf, expireOf, boundOf, endOf};
+ghost use Rattle.change.specs.Slot.{recordIn, InUseAt};
+ghost use Rattle.live.specs.Live.{liveOf, Sound};
+ghost use Rattle.answer.specs.Replied.{Replied};
+ghost use Rattle.count.specs.Total.{totalFrom, totalOf};
+ghost use Rattle.access.specs.Gives.{Replies, held};
+ghost use Rattle.write.specs.Does.{Ready, Does};
+ghost use Rattle.write.specs.Gate.{gateOf};
+ghost use Rattle.write.specs.Finish.{replyOf, StoredOk, Finishes};
+
+// What NX, XX and VER let a write do: go on, answer nil, or be refused as stale.
+enum Gate {
+    Open,
+    Nil,
+    Stale,
+}
+
+// Tests NX and XX, and after them VER.
+fn admit(table: &[u8], live: Found, presence: Presence, change: Change) -> Gate
+    requires { ⌜ Sound (now table) live ⌝ }
+    ensures { λ r. ⌜ r ≡ gateOf (allowed (presenceOf presence) (liveOf (now (table .entry)) live)) (agrees (changeOf change) (liveOf (now (table .entry)) live)) ⌝ }
+{
+    let allowed = live::allowed(presence, live);
+    let agrees = live::agrees(table, live, change);
+    if !allowed {
+        return Gate::Nil;
+    }
+    if !agrees {
+        return Gate::Stale;
+    }
+    Gate::Open
+}
+
+// How a command answers once its value is stored. The flag says whether WITHVERSION is given.
+enum Success {
+    // EXSET
+    Set(bool),
+    // EXINCRBY, with the number stored
+    Count(bool, i64),
+    // EXCAS
+    Swap,
+    // EXAPPEND and EXPREPEND
+    Join,
+}
+
+// Writes the reply of a command whose value is stored with a version.
+fn reply_success(reply: &mut [u8], success: Success, version: u64) -> usize
+    requires { ⌜ (128 ≤ length (now reply)) × (version < versionLimit) ⌝ }
+    ensures { λ r. ⌜ Replied (replyOf success version) (now (reply .entry)) (now (reply .exit)) r ⌝ }
+{
+    match success {
+        Success::Set(with_version) => answer::set_reply(reply, with_version, version),
+        Success::Count(with_version, z) => answer::count_reply(reply, with_version, z, version),
+        Success::Swap => answer::swap_reply(reply, version),
+        Success::Join => answer::number_reply(reply, version),
+    }
+}
+
+// Answers a command whose value was stored or refused.
+fn finish(stored: Stored, success: Success, reply: &mut [u8]) -> Answer
+    requires { ⌜ (128 ≤ length (now reply)) × StoredOk stored ⌝ }
+    ensures { λ r. ⌜ Finishes (now (reply .entry)) (now (reply .exit)) stored (replyOf success) r ⌝ }
+{
+    match stored {
+        Stored::Refused(number) => access::refuse(reply, number),
+        Stored::Version(version) => {
+            let len = reply_success(reply, success, version);
+            Answer { number: 0, len }
+        }
+    }
+}
+
+// EXSET: stores the value.
+pub fn set(
+    table: &mut [u8],
+    time: u64,
+    key: &[u8],
+    live: Found,
+    value: &[u8],
+    presence: Presence,
+    change: Change,
+    expire: Expire,
+    flags: u32,
+    with_version: bool,
+    reply: &mut [u8],
+) -> Answer
+    requires { ⌜ Ready (held (now table) (now reply)) time (now key) live ⌝ }
+    requires { ⌜ (length (now value) ≤ 64) × ChangeOk (changeOf change) ⌝ }
+    ensures { λ r. ⌜ Does (held (now (table .entry)) (now (reply .entry))) (held (now (table .exit)) (now (reply .exit))) time live (exset (now (key .entry)) (now (value .entry)) (presenceOf presence) (changeOf change) (expireOf expire) flags «with_version») r ⌝ }
+{
+    match admit(table, live, presence, change) {
+        Gate::Nil => access::nil(reply),
+        Gate::Stale => access::refuse(reply, 12),
+        Gate::Open => {
+            let given = Flags::Set(flags);
+            let stored = put::store_value(table, time, key, live, value, change, expire, given);
+            finish(stored, Success::Set(with_version), reply)
+        }
+    }
+}
+
+// What EXINCRBY comes to: the sum of the number stored, 0 under an absent key, and the one given.
+fn total(table: &[u8], live: Found, by: i64, min: Bound, max: Bound, non_negative: bool) -> Total
+    requires { ⌜ Sound (now table) live ⌝ }
+    ensures { λ r. ⌜ r ≡ totalFrom (totalOf by (boundOf min) (boundOf max) «non_negative» (valueIn (liveOf (now (table .entry)) live))) ⌝ }
+{
+    let Found::At(slot) = live else {
+        return count::add_within(0, by, min, max, non_negative);
+    };
+    let text = record::value(live::record_at(table, slot));
+    count::add_to_text(text, by, min, max, non_negative)
+}
+
+// EXINCRBY: adds to the number stored.
+pub fn increment(
+    table: &mut [u8],
+    time: u64,
+    key: &[u8],
+    live: Found,
+    by: i64,
+    presence: Presence,
+    change: Change,
+    expire: Expire,
+    min: Bound,
+    max: Bound,
+    non_negative: bool,
+    with_version: bool,
+    reply: &mut [u8],
+) -> Answer
+    requires { ⌜ Ready (held (now table) (now reply)) time (now key) live ⌝ }
+    requires { ⌜ ChangeOk (changeOf change) ⌝ }
+    ensures { λ r. ⌜ Does (held (now (table .entry)) (now (reply .entry))) (held (now (table .exit)) (now (reply .exit))) time live (exincrby (now (key .entry)) by (presenceOf presence) (changeOf change) (expireOf expire) (boundOf min) (boundOf max) «non_negative» «with_version») r ⌝ }
+{
+    match admit(table, live, presence, change) {
+        Gate::Nil => access::nil(reply),
+        Gate::Stale => access::refuse(reply, 12),
+        Gate::Open => match total(table, live, by, min, max, non_negative) {
+            Total::Refused(number) => access::refuse(reply, number),
+            Total::Value(z) => {
+                let stored = put::store_number(table, time, key, live, z, change, expire);
+                finish(stored, Success::Count(with_version, z), reply)
+            }
+        },
+    }
+}
+
+// Answers that the version is stale, with the value and version of the record in use at a slot.
+fn stale(table: &[u8], slot: usize, reply: &mut [u8]) -> Answer
+    requires { ⌜ isSome (readTable form128 (now table)) ≡ true ⌝ }
+    requires { ⌜ InUseAt (now table) slot ⌝ }
+    requires { ⌜ 128 ≤ length (now reply) ⌝ }
+    ensures { λ r. ⌜ Replies (now (reply .entry)) (now (reply .exit)) r (ok (answer (staleReply (recordIn (now (table .entry)) slot)))) ⌝ }
+{
+    let r = live::record_at(table, slot);
+    let version = record::version(r);
+    let len = answer::stale_reply(reply, record::value(r), version);
+    Answer { number: 0, len }
+}
+
+// EXCAS: stores the value if the live record has the version.
+pub fn swap(
+    table: &mut [u8],
+    time: u64,
+    key: &[u8],
+    live: Found,
+    value: &[u8],
+    version: u64,
+    expire: Expire,
+    reply: &mut [u8],
+) -> Answer
+    requires { ⌜ Ready (held (now table) (now reply)) time (now key) live ⌝ }
+    requires { ⌜ length (now value) ≤ 64 ⌝ }
+    ensures { λ r. ⌜ Does (held (now (table .entry)) (now (reply .entry))) (held (now (table .exit)) (now (reply .exit))) time live (excas (now (key .entry)) (now (value .entry)) version (expireOf expire)) r ⌝ }
+{
+    let Found::At(slot) = live else {
+        let len = answer::minus_one_reply(reply);
+        return Answer { number: 0, len };
+    };
+    if version != record::version(live::record_at(table, slot)) {
+        return stale(table, slot, reply);
+    }
+    let stored = put::store_value(
+        table,
+        time,
+        key,
+        live,
+        value,
+        Change::Raise,
+        expire,
+        Flags::Keep,
+    );
+    finish(stored, Success::Swap, reply)
+}
+
+// EXAPPEND and EXPREPEND: joins the text to the value stored.
+pub fn join(
+    table: &mut [u8],
+    time: u64,
+    key: &[u8],
+    live: Found,
+    end: End,
+    value: &[u8],
+    presence: Presence,
+    change: Change,
+    reply: &mut [u8],
+) -> Answer
+    requires { ⌜ Ready (held (now table) (now reply)) time (now key) live ⌝ }
+    requires { ⌜ (length (now value) ≤ 64) × ChangeOk (changeOf change) ⌝ }
+    ensures { λ r. ⌜ Does (held (now (table .entry)) (now (reply .entry))) (held (now (table .exit)) (now (reply .exit))) time live (exjoin (endOf end) (now (key .entry)) (now (value .entry)) (presenceOf presence) (changeOf change)) r ⌝ }
+{
+    match admit(table, live, presence, change) {
+        Gate::Nil => access::nil(reply),
+        Gate::Stale => access::refuse(reply, 12),
+        Gate::Open => {
+            let stored = put::join_value(table, time, key, live, end, value, change);
+            finish(stored, Success::Join, reply)
+        }
+    }
+}
