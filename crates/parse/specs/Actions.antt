@@ -1,0 +1,64 @@
+-- The action of a command, by its name, its fixed words and what its options say.
+use Prim.Native.Nat.{ℕ}
+use mathlib.Core.Bool.{Bool, true, false}
+use mathlib.Core.List.{List}
+use lib.IntN.{ℤ}
+use Rattle.model.specs.Command as model
+use Rattle.model.specs.Command.{Name, pick, has}
+use Rattle.command.specs.Command.{expireOf, presenceFrom, changeFrom, expireFrom, boundFrom}
+use Rattle.command.specs.declared.Span.{Span}
+use Rattle.command.specs.declared.Change.{Change}
+use Rattle.command.specs.declared.Expire.{Expire}
+use Rattle.command.specs.declared.Bound.{Bound}
+use Rattle.command.specs.declared.End.the-variants as End
+use Rattle.command.specs.declared.Action.{Action}
+use Rattle.command.specs.declared.Action.the-variants as Action
+use Rattle.values.specs.Values.{otherwise}
+use Rattle.parse.specs.declared.action.Said.{Said}
+
+-- whether a command keeps the expiry where its options do not say; any other clears it
+abbrev pub keepsOf : Name → Bool
+keepsOf model.EXSET = false
+keepsOf model.EXGET = false
+keepsOf model.EXSETVER = false
+keepsOf model.EXINCRBY = true
+keepsOf model.EXCAS = false
+keepsOf model.EXCAD = false
+keepsOf model.EXAPPEND = false
+keepsOf model.EXPREPEND = false
+keepsOf model.EXGAE = false
+keepsOf model.DEL = false
+
+-- what the options gs say, with their numbers
+abbrev pub saidWith : List model.Given → Change → Expire → (flags : ℕ) → (min max : Bound) → Said
+saidWith gs c e f a b = record {
+  presence = presenceFrom (model.presenceOf (pick model.nxOrXx gs));
+  change = c;
+  expire = e;
+  flags = f;
+  min = a;
+  max = b;
+  nonnegative = has model.nonNegative gs;
+  withversion = has model.withVersion gs;
+  withflags = has model.withFlags gs;
+}
+
+-- the same at the time `now`
+abbrev pub saidFrom : (now : ℕ) → (keeps : Bool) → List model.Given → Said
+saidFrom now keeps gs =
+    saidWith gs (changeFrom (model.changeOf (pick model.verOrAbs gs))) (expireFrom (model.expireOf now (otherwise keeps) (pick model.timeWord gs)))
+    (model.flagsGiven (pick model.flagsWord gs)) (boundFrom (model.boundOf (pick model.minWord gs))) (boundFrom (model.boundOf (pick model.maxWord gs)))
+
+-- the action with the value v, the signed number z and the version n
+abbrev pub actionSaid : Name → (v : Span) → (z : ℤ) → (n : ℕ) → Said → Action
+actionSaid model.EXSET v z n o = Action.Set v (o .presence) (o .change) (o .expire) (o .flags) (o .withversion)
+actionSaid model.EXGET v z n o = Action.Get (o .withflags)
+actionSaid model.EXSETVER v z n o = Action.SetVersion n
+actionSaid model.EXINCRBY v z n o =
+    Action.Increment z (o .presence) (o .change) (o .expire) (o .min) (o .max) (o .nonnegative) (o .withversion)
+actionSaid model.EXCAS v z n o = Action.Swap v n (o .expire)
+actionSaid model.EXCAD v z n o = Action.Remove n
+actionSaid model.EXAPPEND v z n o = Action.Join End.Back v (o .presence) (o .change)
+actionSaid model.EXPREPEND v z n o = Action.Join End.Front v (o .presence) (o .change)
+actionSaid model.EXGAE v z n o = Action.Touch (model.expirySet (expireOf (o .expire)))
+actionSaid model.DEL v z n o = Action.Delete
