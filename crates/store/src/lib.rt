@@ -1,0 +1,38 @@
+// The store: one call on a borrowed table, from bytes to bytes.
+use access::Answer;
+use command::Parsed;
+use resp::Count;
+ghost use Rattle.model.specs.Table.{form128};
+ghost use Rattle.model.specs.Call.{call};
+ghost use Rattle.store.specs.Called.{Called};
+
+// The latest time, 2^62.
+const LATEST: u64 = 4611686018427387904;
+
+// The least reply buffer.
+const ROOM: usize = 128;
+
+// Applies one command to a table: document 01's number, the reply's length, the reply and the changed table.
+pub fn call(table: &mut [u8], time: u64, command: &[u8], reply: &mut [u8]) -> Answer
+    ensures { λ r. ⌜ Called (call form128 (now (table .entry)) time (now (command .entry)) (now (reply .entry))) r (now (table .exit)) (now (reply .exit)) ⌝ }
+{
+    if !table::records_ok(table) {
+        return Answer { number: 1, len: 0 };
+    }
+    if !table::keys_ok(table) {
+        return Answer { number: 1, len: 0 };
+    }
+    if LATEST < time {
+        return Answer { number: 2, len: 0 };
+    }
+    if reply.len() < ROOM {
+        return Answer { number: 3, len: 0 };
+    }
+    let Count::Words(count) = resp::count_words(command) else {
+        return Answer { number: 4, len: 0 };
+    };
+    match parse::parse(command, count, time) {
+        Parsed::Refused(number) => access::refuse(reply, number),
+        Parsed::Request(request) => execute::execute(table, time, command, request, reply),
+    }
+}
