@@ -1,9 +1,9 @@
 // The bench sheet of document 01 and the sessions of documents 000 and 001, run against the store
 // and printed as the documents print them. The file stdout is copied from the documents.
 mod bench;
-mod command;
+mod compose;
 mod documents;
-mod reply;
+mod printed;
 mod session;
 mod text;
 

@@ -1,9 +1,9 @@
--- `reply::number`: the number stays below 1000, since a fourth digit is refused.
+-- `printed::number`: the number stays below 1000, since a fourth digit is refused.
 use Prim.Native.Nat.{_≤_, _-_}
 use lib.ListN.{length}
 use borrow.Author.Needs.{needs}
-use Rattle.sessions.proofs.reply.number.Statement.{statement}
-use Rattle.sessions.proofs.reply.number.Tie as tie
+use Rattle.sessions.proofs.printed.number.Statement.{statement}
+use Rattle.sessions.proofs.printed.number.Tie as tie
 
 abbrev Inv-loop : tie.InvT-loop
 Inv-loop text n₀ i₀ n i = n ≤ 1000

@@ -1,11 +1,11 @@
--- `command::count_words`: at most one word more than the bytes passed.
+-- `compose::count_words`: at most one word more than the bytes passed.
 use Prim.Native.Nat.{_+_, _≤_, _-_}
 use native.Mathlib.Omega.{arith}
 use mathlib.Core.Logic.{⊎-elim}
 use lib.ListN.{length}
 use borrow.Author.Needs.{needs}
-use Rattle.sessions.proofs.command.count_words.Statement.{statement}
-use Rattle.sessions.proofs.command.count_words.Tie as tie
+use Rattle.sessions.proofs.compose.count_words.Statement.{statement}
+use Rattle.sessions.proofs.compose.count_words.Tie as tie
 
 abbrev Inv-loop : tie.InvT-loop
 Inv-loop line n₀ i₀ n i = (i ≤ length line) × (n ≤ i + 1)

@@ -1,9 +1,9 @@
--- `command::encode`: a word ends where it starts or later, and within the line, so what is left of the line falls.
+-- `compose::encode`: a word ends where it starts or later, and within the line, so what is left of the line falls.
 use Prim.Native.Nat.{_+_, _≤_, _-_}
 use lib.ListN.{length}
 use borrow.Author.Needs.{needs}
-use Rattle.sessions.proofs.command.encode.Statement.{statement}
-use Rattle.sessions.proofs.command.encode.Tie as tie
+use Rattle.sessions.proofs.compose.encode.Statement.{statement}
+use Rattle.sessions.proofs.compose.encode.Tie as tie
 
 abbrev Inv-loop : tie.InvT-loop
 Inv-loop line out₀ at₀ from₀ out at from = from ≤ length line + 1

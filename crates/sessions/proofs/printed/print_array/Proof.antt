@@ -1,8 +1,8 @@
--- `reply::print_array`: the items that are left fall; a place is tested where it is used.
+-- `printed::print_array`: the items that are left fall; a place is tested where it is used.
 use Prim.Native.Nat.{_-_}
 use borrow.Author.Needs.{needs}
-use Rattle.sessions.proofs.reply.print_array.Statement.{statement}
-use Rattle.sessions.proofs.reply.print_array.Tie as tie
+use Rattle.sessions.proofs.printed.print_array.Statement.{statement}
+use Rattle.sessions.proofs.printed.print_array.Tie as tie
 
 abbrev Inv-loop : tie.InvT-loop
 Inv-loop reply count at₀ i₀ at i = Unit {0}

@@ -1,9 +1,9 @@
--- `command::put_text`: what is left of the text falls; `put` tests the room.
+-- `compose::put_text`: what is left of the text falls; `put` tests the room.
 use Prim.Native.Nat.{_≤_, _-_}
 use lib.ListN.{length}
 use borrow.Author.Needs.{needs}
-use Rattle.sessions.proofs.command.put_text.Statement.{statement}
-use Rattle.sessions.proofs.command.put_text.Tie as tie
+use Rattle.sessions.proofs.compose.put_text.Statement.{statement}
+use Rattle.sessions.proofs.compose.put_text.Tie as tie
 
 abbrev Inv-loop : tie.InvT-loop
 Inv-loop out₀ at text next₀ i₀ out next i = i ≤ length text
