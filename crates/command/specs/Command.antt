@@ -1,5 +1,5 @@
 -- What ties a command by value to the model's: its words are parts of the command's bytes s.
-use Prim.Native.Nat.{ℕ, _+_, _-_}
+use Prim.Native.Nat.{ℕ, _+_, _-_, _≤_}
 use mathlib.Core.List.{List, []}
 use mathlib.Core.Option.{Option, none, some, Option·getD}
 use lib.ListN.{length}
@@ -32,6 +32,12 @@ use Rattle.command.specs.declared.Parsed.the-variants as Parsed
 -- the bytes of a span of s
 abbrev pub bytesOf : List ℕ → Span → List ℕ
 bytesOf s w = part (w .start) (w .end - w .start) s
+
+-- a span of at most n of the bytes s
+pub record Within (s : List ℕ) (n : ℕ) (w : Span) : Type 0 where
+  pub ordered : w .start ≤ w .end
+  pub inside : w .end ≤ length s
+  pub fits : length (bytesOf s w) ≤ n
 
 abbrev pub presenceOf : Presence → model.Presence
 presenceOf Presence.Always = model.always

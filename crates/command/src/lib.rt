@@ -1,4 +1,8 @@
 // A command by value. Its words stay in the borrowed bytes: a span says where.
+ghost use mathlib.Core.Path.{_≡_};
+ghost use Prim.Native.Nat.{_≤_};
+ghost use lib.ListN.{length};
+ghost use Rattle.command.specs.Command.{bytesOf};
 
 // Where the bytes of a word begin and end.
 pub struct Span {
@@ -150,4 +154,14 @@ pub enum Opt {
 pub enum Spelled {
     Known(Opt),
     Unknown,
+}
+
+// The bytes of a word of the command.
+pub fn word_of(s: &[u8], w: Span) -> &[u8]
+    requires { ⌜ (w .start ≤ w .end) × (w .end ≤ length (now s)) ⌝ }
+    ensures { λ r. ⌜ now r ≡ bytesOf (now (s .entry)) w ⌝ }
+{
+    let from = w.start;
+    let to = w.end;
+    &s[from..to]
 }

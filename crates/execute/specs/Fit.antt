@@ -7,18 +7,11 @@ use lib.ListN.{length}
 use Rattle.model.specs.Table.{form128, readTable}
 use Rattle.model.specs.Command.{isSome}
 use Rattle.model.proofs.Commands.{ChangeOk}
-use Rattle.command.specs.declared.Span.{Span}
 use Rattle.command.specs.declared.Action.{Action}
 use Rattle.command.specs.declared.Action.the-variants as Action
 use Rattle.command.specs.declared.Request.{Request}
-use Rattle.command.specs.Command.{bytesOf, changeOf}
+use Rattle.command.specs.Command.{Within, changeOf}
 use Rattle.access.specs.Gives.{Held}
-
--- a span of at most n of the bytes s
-pub record Within (s : List ℕ) (n : ℕ) (w : Span) : Type 0 where
-  pub ordered : w .start ≤ w .end
-  pub inside : w .end ≤ length s
-  pub fits : length (bytesOf s w) ≤ n
 
 -- a value fits a record, and a version that is set is in range
 abbrev pub ActionOk : List ℕ → Action → Type 0

@@ -2,34 +2,21 @@
 use access::Answer;
 use command::Action;
 use command::Request;
-use command::Span;
 ghost use mathlib.Core.Path.{_≡_};
-ghost use Prim.Native.Nat.{_≤_};
-ghost use lib.ListN.{length};
 ghost use Rattle.model.specs.Execute.{execute};
 ghost use Rattle.model.specs.Table.{form128};
 ghost use Rattle.model.specs.Call.{effectOn};
 ghost use Rattle.table.specs.Slots.{slotsOf};
-ghost use Rattle.command.specs.Command.{bytesOf, commandOf};
+ghost use Rattle.command.specs.Command.{commandOf};
 ghost use Rattle.access.specs.Gives.{outcomeOf, held};
 ghost use Rattle.execute.specs.Fit.{Fit};
-
-// The bytes of a word of the command.
-fn word_of(s: &[u8], w: Span) -> &[u8]
-    requires { ⌜ (w .start ≤ w .end) × (w .end ≤ length (now s)) ⌝ }
-    ensures { λ r. ⌜ now r ≡ bytesOf (now (s .entry)) w ⌝ }
-{
-    let from = w.start;
-    let to = w.end;
-    &s[from..to]
-}
 
 // Carries a command out and writes its reply.
 pub fn execute(table: &mut [u8], time: u64, s: &[u8], request: Request, reply: &mut [u8]) -> Answer
     requires { ⌜ Fit (held (now table) (now reply)) (now s) request ⌝ }
     ensures { λ r. ⌜ outcomeOf r (now (table .exit)) (now (reply .exit)) ≡ effectOn form128 (now (table .entry)) (now (reply .entry)) (slotsOf (now (table .entry))) (execute form128 time (slotsOf (now (table .entry))) (commandOf (now (s .entry)) request)) ⌝ }
 {
-    let key = word_of(s, request.key);
+    let key = command::word_of(s, request.key);
     let live = live::find_live(table, time, key);
     let action = request.action;
     match action {
@@ -41,7 +28,7 @@ pub fn execute(table: &mut [u8], time: u64, s: &[u8], request: Request, reply: &
             flags,
             with_version,
         } => {
-            let text = word_of(s, value);
+            let text = command::word_of(s, value);
             write::set(
                 table,
                 time,
@@ -87,7 +74,7 @@ pub fn execute(table: &mut [u8], time: u64, s: &[u8], request: Request, reply: &
             version,
             expire,
         } => {
-            let text = word_of(s, value);
+            let text = command::word_of(s, value);
             write::swap(table, time, key, live, text, version, expire, reply)
         }
         Action::Remove { version } => access::remove(table, live, version, reply),
@@ -97,7 +84,7 @@ pub fn execute(table: &mut [u8], time: u64, s: &[u8], request: Request, reply: &
             presence,
             change,
         } => {
-            let text = word_of(s, value);
+            let text = command::word_of(s, value);
             write::join(table, time, key, live, side, text, presence, change, reply)
         }
         Action::Touch { expiry } => access::touch(table, live, expiry, reply),

@@ -1,5 +1,6 @@
--- Laws of the tests of a command, of its numbers, and of the action that it comes to.
+-- Laws of the tests of a command, of its numbers, of the action that it comes to, and of the answers.
 pub mod Spans
 pub mod Order
 pub mod Nine
 pub mod Built
+pub mod Answers

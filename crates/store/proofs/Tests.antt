@@ -27,13 +27,6 @@ called o a t b e = record {
   reply = ap (λ (x : Outcome). x .reply) e;
 }
 
-pub unread : (t : List ℕ) → isSome (readTable form128 t) ≡ false → readTable form128 t ≡ none
-unread t h = go (readTable form128 t) h
-  where
-    go : (o : Option (List Slot)) → isSome o ≡ false → o ≡ none
-    go none q = refl
-    go (some ss) q = never true refl q
-
 module _ (t : List ℕ) (time : ℕ) (c b : List ℕ) where
   pub call-unread : readTable form128 t ≡ none → call form128 t time c b ≡ untouched 1 t b
   unfolding call

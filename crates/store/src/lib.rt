@@ -1,10 +1,13 @@
-// The store: one call on a borrowed table, from bytes to bytes.
+// The store: one call on a borrowed table, from bytes to bytes, and the value that a command shows.
 use access::Answer;
 use command::Parsed;
+use current::Shown;
 use resp::Count;
 ghost use Rattle.model.specs.Table.{form128};
 ghost use Rattle.model.specs.Call.{call};
+ghost use Rattle.model.specs.CurrentValue.{currentValue};
 ghost use Rattle.store.specs.Called.{Called};
+ghost use Rattle.store.specs.Shows.{Shows};
 
 // The latest time, 2^62.
 const LATEST: u64 = 4611686018427387904;
@@ -34,5 +37,30 @@ pub fn call(table: &mut [u8], time: u64, command: &[u8], reply: &mut [u8]) -> An
     match parse::parse(command, count, time) {
         Parsed::Refused(number) => access::refuse(reply, number),
         Parsed::Request(request) => execute::execute(table, time, command, request, reply),
+    }
+}
+
+// The value at the key after an EXGET or EXCAS, as a part of the command where the EXCAS would succeed, else of the table. Where none is shown, the table's first zero bytes.
+pub fn current_value<'a>(
+    table: &'a [u8],
+    time: u64,
+    command: &'a [u8],
+    shown: &mut bool,
+) -> &'a [u8]
+    ensures { λ r. ⌜ Shows (table .entry) (command .entry) (currentValue form128 (now (table .entry)) time (now (command .entry))) r (now (shown .exit)) ⌝ }
+{
+    match locate::locate(table, time, command) {
+        Shown::InCommand { start, len } => {
+            *shown = true;
+            &command[start..start + len]
+        }
+        Shown::InTable { start, len } => {
+            *shown = true;
+            &table[start..start + len]
+        }
+        Shown::Nothing => {
+            *shown = false;
+            &table[..0]
+        }
     }
 }

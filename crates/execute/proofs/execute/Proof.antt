@@ -12,11 +12,11 @@ use Rattle.model.specs.Execute.{execute, executeOn}
 use Rattle.model.specs.Call.{Outcome, effectOn}
 use Rattle.table.specs.Slots.{slotsOf}
 use Rattle.command.specs.declared.Action.{Action}
-use Rattle.command.specs.Command.{bytesOf, actionOf, commandOf}
+use Rattle.command.specs.Command.{Within, bytesOf, actionOf, commandOf}
 use Rattle.live.specs.Live.{liveOf}
 use Rattle.access.specs.Gives.{held}
 use Rattle.write.specs.Does.{Ready}
-use Rattle.execute.specs.Fit.{ActionOk, Within}
+use Rattle.execute.specs.Fit.{ActionOk}
 use Rattle.execute.proofs.Actions.{executed, set-text, swap-text, join-text, number-back}
 use Rattle.execute.proofs.execute.Statement.{statement}
 use Rattle.execute.proofs.execute.Tie as tie

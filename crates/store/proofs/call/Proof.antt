@@ -19,13 +19,15 @@ use Rattle.model.proofs.Steps.{Comes}
 use Rattle.model.proofs.Commands.{Parsing, Known, parse-known}
 use Rattle.table.specs.Slots.{slotsOf}
 use Rattle.table.proofs.Records.{slots-of}
-use Rattle.command.specs.Command.{commandOf, requestFrom, wordsOf}
+use Rattle.command.specs.Command.{Within, commandOf, requestFrom, wordsOf}
 use Rattle.command.specs.declared.Request.{Request}
 use Rattle.command.proofs.Requests.{command-back}
 use Rattle.access.specs.Gives.{held}
-use Rattle.execute.specs.Fit.{Fit, Within, ActionOk}
-use Rattle.store.proofs.Tests.{called, unread, call-unread, call-equal-keys, call-late, call-short, call-malformed, call-decoded}
-use Rattle.store.proofs.Requests.{key-fit, request-fit, refused-by, Parsed-as, parsed-as, counted, uncounted}
+use Rattle.parse.proofs.Answers.{key-fit, refused-by, Parsed-as, parsed-as, counted, uncounted}
+use Rattle.locate.proofs.Tests.{unread}
+use Rattle.execute.specs.Fit.{Fit, ActionOk}
+use Rattle.store.proofs.Tests.{called, call-unread, call-equal-keys, call-late, call-short, call-malformed, call-decoded}
+use Rattle.store.proofs.Requests.{request-fit}
 use Rattle.store.proofs.call.Statement.{statement}
 use Rattle.store.proofs.call.Tie as tie
 

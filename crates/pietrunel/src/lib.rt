@@ -1,0 +1,63 @@
+// The library's functions for C: a slice crosses as a pointer and a length.
+use current::Shown;
+ghost use Rattle.model.specs.Table.{form128};
+ghost use Rattle.model.specs.Call.{call};
+ghost use Rattle.model.specs.CurrentValue.{currentValue};
+ghost use Rattle.store.specs.Called.{Called};
+ghost use Rattle.pietrunel.specs.Located.{Located};
+
+// Applies one command to a table: document 01's number, the reply's length, the reply and the changed table.
+#[no_mangle]
+pub extern "C" fn pietrunel_call(
+    table: &mut [u8],
+    time: u64,
+    command: &[u8],
+    reply: &mut [u8],
+    used: &mut usize,
+) -> u32
+    ensures { λ r. ⌜ Called (call form128 (now (table .entry)) time (now (command .entry)) (now (reply .entry))) (record { number = r; len = now (used .exit) }) (now (table .exit)) (now (reply .exit)) ⌝ }
+{
+    let answer = store::call(table, time, command, reply);
+    *used = answer.len;
+    answer.number
+}
+
+// Whether a command shows a current value, and where it stands; where it shows none, false and zeros.
+#[no_mangle]
+pub extern "C" fn pietrunel_current_value(
+    table: &[u8],
+    time: u64,
+    command: &[u8],
+    inside: &mut bool,
+    start: &mut usize,
+    len: &mut usize,
+) -> bool
+    ensures { λ r. ⌜ Located (currentValue form128 (now (table .entry)) time (now (command .entry))) r (now (inside .exit)) (now (start .exit)) (now (len .exit)) ⌝ }
+{
+    match locate::locate(table, time, command) {
+        Shown::Nothing => {
+            *inside = false;
+            *start = 0;
+            *len = 0;
+            false
+        }
+        Shown::InTable {
+            start: from,
+            len: count,
+        } => {
+            *inside = false;
+            *start = from;
+            *len = count;
+            true
+        }
+        Shown::InCommand {
+            start: from,
+            len: count,
+        } => {
+            *inside = true;
+            *start = from;
+            *len = count;
+            true
+        }
+    }
+}
