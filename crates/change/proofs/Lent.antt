@@ -12,13 +12,13 @@ use Rattle.model.specs.Bytes.{written}
 use Rattle.model.specs.Command.{isSome}
 use Rattle.model.specs.Table.{Slot, Record, empty, used, isEmpty, fields, form128, readTable, recordBytes, slotBytes}
 use Rattle.model.proofs.Basics.{at-getD, at-length}
+use Rattle.model.proofs.Tables.{tableBytes-set}
 use Rattle.slice.proofs.Written.{part-back}
 use Rattle.record.specs.Record.{InUse}
 use Rattle.table.specs.Slots.{slotsOf}
 use Rattle.table.proofs.Records.{table-of, table-length}
 use Rattle.table.proofs.Parts.{lent, lent-bytes, lent-length, lent-in-use, slot-used}
 use Rattle.change.specs.Slot.{recordOf, recordIn, InUseAt, withSlot}
-use Rattle.change.proofs.Replace.{table-set}
 
 module _ (t : List ℕ) (ok : isSome (readTable form128 t) ≡ true) (i : ℕ) (h : i < length (slotsOf t)) where
   pub inside : i * 128 + 128 ≤ length t
@@ -30,7 +30,7 @@ module _ (t : List ℕ) (ok : isSome (readTable form128 t) ≡ true) (i : ℕ) (
       let size : length r ≡ 128 = l ∙ lent-length i t inside in
       part-back (i * 128) 128 t r size
       ∙ ((λ j. written (i * 128) (e j) (sym (table-of t ok .bytes) j))
-      ∙ sym (table-set form128 (slotsOf t) i s (table-of t ok .kept) h (ap length (sym e) ∙ size)))
+      ∙ sym (tableBytes-set form128 (slotsOf t) i s (table-of t ok .kept) h (ap length (sym e) ∙ size)))
 
 -- ---- a slot in use
 

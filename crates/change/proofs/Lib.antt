@@ -1,3 +1,2 @@
 -- Laws of a slot that is replaced, for this crate and those above it.
-pub mod Replace
 pub mod Lent
