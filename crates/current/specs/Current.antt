@@ -50,7 +50,7 @@ abbrev pub shownOf : List ℕ → Found → Action → Shown
 shownOf t Found.Nothing a = Shown.Nothing
 shownOf t (Found.At i) a = shownAt t i a
 
--- the value of an EXCAS begins before it ends
+-- the value of an EXCAS ends no earlier than it begins
 abbrev pub Ordered : Action → Type 0
 Ordered (Action.Get w) = Unit {0}
 Ordered (Action.Swap v n e) = v .start ≤ v .end

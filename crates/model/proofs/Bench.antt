@@ -9,7 +9,7 @@ use Rattle.model.specs.Call.{Outcome, Store, untouched, call}
 use Rattle.model.specs.CurrentValue.{currentValue}
 use Rattle.model.specs.Resp.{encode}
 use Rattle.model.specs.BenchSheet.{rows, zeros, expected, outcomes, BenchSheet}
-use Rattle.model.specs.MoreRows.{also, others, Passes, raws, Numbers, View, views}
+use Rattle.model.specs.MoreRows.{also, others, orders, Passes, raws, Numbers, View, views}
 use Rattle.model.specs.WrongStores.{refusesAll, writesNothing, saysOk, obeysFirst, storesOldVersion}
 use Rattle.model.proofs.Compute.{computing}
 
@@ -94,6 +94,10 @@ also-passes = refl
 pub others-pass : Passes (call form128) others
 unfolding computing
 others-pass = refl
+
+pub orders-pass : Passes (call form128) orders
+unfolding computing
+orders-pass = refl
 
 pub raws-pass : Numbers (call form128) raws
 unfolding computing

@@ -1,4 +1,4 @@
--- Demand 3's premises are met by a worked history, so the claim is not empty; and two wrong stores do not meet the claim.
+-- Demand 3's premises are met by a worked history, so the claim is not empty; and three wrong stores do not meet the claim.
 use Prim.Native.Nat.{ℕ, suc, _+_}
 use Prim.Native.String.{String}
 use mathlib.Core.Path.{_≡_, refl, sym, ap, subst}

@@ -48,10 +48,12 @@ pub data Command : Type 0 where
 
 -- ---- option words
 
--- the options that hold a choice, and those that do not; a time word has its unit in milliseconds, and EX and PX count from the call's time
+-- the option words that stand for themselves
 pub data Word : Type 0 where
   KEEPTTL FLAGS MIN MAX NONEGATIVE WITHVERSION WITHFLAGS : Word
 
+-- an option: which of EX, PX, EXAT and PXAT, by its unit in milliseconds and whether it counts from the call's time; NX or XX; VER or ABS; or
+-- one of the words above
 pub data Opt : Type 0 where
   time : (unit : ℕ) (fromNow : Bool) → Opt
   presence : Presence → Opt
@@ -100,7 +102,7 @@ kindNo nonNegative = 7
 kindNo withVersion = 8
 kindNo withFlags = 9
 
--- what a number word is read as
+-- what a number word is read as: a signed number, a version (0 to 2^63 − 1) or flags
 pub data Number : Type 0 where
   signed natural flags : Number
 

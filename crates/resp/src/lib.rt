@@ -29,7 +29,7 @@ pub enum Count {
     Malformed,
 }
 
-// A command that is lent, and a place in it.
+// A borrowed command, and a place in it.
 pub struct Reader<'a> {
     pub command: &'a [u8],
     pub at: usize,

@@ -25,9 +25,9 @@ use Rattle.access.specs.Gives.{outcomeOf, Replies}
 use Rattle.access.specs.declared.Answer.{Answer}
 use Rattle.access.proofs.Answers.{outcome-replied}
 use Rattle.write.specs.Finish.{StoredOk}
-use Rattle.write.specs.Gate.{gateOf}
-use Rattle.write.specs.declared.Gate.{Gate}
-use Rattle.write.specs.declared.Gate.the-variants.{Open, Nil, Stale}
+use Rattle.write.specs.Admission.{admissionOf}
+use Rattle.write.specs.declared.Admission.{Admission}
+use Rattle.write.specs.declared.Admission.the-variants.{Granted, Nil, Stale}
 use Rattle.write.proofs.Writes.{putNew, write-stale, write-passes}
 
 -- where a command is carried out: its time and key, the bytes of the table and of the reply buffer, and the slot of the live record
@@ -55,40 +55,40 @@ putAt a w new = putNew (a .time) (slotsOf (a .table)) (a .key) (liveAt a) w new
 -- ---- NX and XX, and test 12
 
 -- a command under NX or XX
-abbrev pub gated : Place → Presence → Write → Checked Effect
-gated a p w = orNil (allowed p (liveAt a)) (writeAt a w)
+abbrev pub admitted : Place → Presence → Write → Checked Effect
+admitted a p w = orNil (allowed p (liveAt a)) (writeAt a w)
 
 -- what the tests were, by what they came to
-were-nil : (b g : Bool) → gateOf b g ≡ Nil → b ≡ false
+were-nil : (b g : Bool) → admissionOf b g ≡ Nil → b ≡ false
 were-nil false g e = refl
 were-nil true false e = clash cc
 were-nil true true e = clash cc
 
-were-stale : (b g : Bool) → gateOf b g ≡ Stale → (b ≡ true) × (g ≡ false)
+were-stale : (b g : Bool) → admissionOf b g ≡ Stale → (b ≡ true) × (g ≡ false)
 were-stale false g e = clash cc
 were-stale true false e = (refl, refl)
 were-stale true true e = clash cc
 
-were-open : (b g : Bool) → gateOf b g ≡ Open → (b ≡ true) × (g ≡ true)
-were-open false g e = clash cc
-were-open true false e = clash cc
-were-open true true e = (refl, refl)
+were-granted : (b g : Bool) → admissionOf b g ≡ Granted → (b ≡ true) × (g ≡ true)
+were-granted false g e = clash cc
+were-granted true false e = clash cc
+were-granted true true e = (refl, refl)
 
-module _ (a : Place) (w : Write) (p : Presence) (r : Gate) (er : r ≡ gateOf (allowed p (liveAt a)) (agrees (w .change) (liveAt a))) where
-  nx : (b : Bool) → allowed p (liveAt a) ≡ b → gated a p w ≡ orNil b (writeAt a w)
+module _ (a : Place) (w : Write) (p : Presence) (r : Admission) (er : r ≡ admissionOf (allowed p (liveAt a)) (agrees (w .change) (liveAt a))) where
+  nx : (b : Bool) → allowed p (liveAt a) ≡ b → admitted a p w ≡ orNil b (writeAt a w)
   nx b e = ap (λ (x : Bool). orNil x (writeAt a w)) e
 
-  pub nil-outcome : r ≡ Nil → (new : List ℕ) (x : Answer) → Replies (a .reply) new x (ok (answer (one nil))) → outcomeOf x (a .table) new ≡ outcome a (gated a p w)
+  pub nil-outcome : r ≡ Nil → (new : List ℕ) (x : Answer) → Replies (a .reply) new x (ok (answer (one nil))) → outcomeOf x (a .table) new ≡ outcome a (admitted a p w)
   nil-outcome q new x h = h (a .table) (slotsOf (a .table)) ∙ ap (outcome a) (sym (nx false (were-nil _ (agrees (w .change) (liveAt a)) (sym er ∙ q))))
 
-  pub stale-outcome : r ≡ Stale → (new : List ℕ) (x : Answer) → Replies (a .reply) new x (refuse 12) → outcomeOf x (a .table) new ≡ outcome a (gated a p w)
+  pub stale-outcome : r ≡ Stale → (new : List ℕ) (x : Answer) → Replies (a .reply) new x (refuse 12) → outcomeOf x (a .table) new ≡ outcome a (admitted a p w)
   stale-outcome q new x h =
       let t = were-stale (allowed p (liveAt a)) (agrees (w .change) (liveAt a)) (sym er ∙ q) in
       h (a .table) (slotsOf (a .table)) ∙ ap (outcome a) (sym (nx true (t .0) ∙ write-stale (a .time) (slotsOf (a .table)) (a .key) (liveAt a) w (t .1)))
 
-  pub gate-passed : r ≡ Open → (x : Checked New) → w .value (valueIn (liveAt a)) ≡ x → gated a p w ≡ (x >>= putAt a w)
-  gate-passed q x e =
-      let t = were-open (allowed p (liveAt a)) (agrees (w .change) (liveAt a)) (sym er ∙ q) in
+  pub admission-passed : r ≡ Granted → (x : Checked New) → w .value (valueIn (liveAt a)) ≡ x → admitted a p w ≡ (x >>= putAt a w)
+  admission-passed q x e =
+      let t = were-granted (allowed p (liveAt a)) (agrees (w .change) (liveAt a)) (sym er ∙ q) in
       nx true (t .0) ∙ write-passes (a .time) (slotsOf (a .table)) (a .key) (liveAt a) w (t .1) x e
 
 -- ---- what is put

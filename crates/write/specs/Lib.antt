@@ -1,3 +1,3 @@
 pub mod Does
-pub mod Gate
+pub mod Admission
 pub mod Finish

@@ -26,30 +26,30 @@ ghost use Rattle.answer.specs.Replied.{Replied};
 ghost use Rattle.count.specs.Total.{totalFrom, totalOf};
 ghost use Rattle.access.specs.Gives.{Replies, held};
 ghost use Rattle.write.specs.Does.{Ready, Does};
-ghost use Rattle.write.specs.Gate.{gateOf};
+ghost use Rattle.write.specs.Admission.{admissionOf};
 ghost use Rattle.write.specs.Finish.{replyOf, StoredOk, Finishes};
 
 // What NX, XX and VER let a write do: go on, answer nil, or be refused as stale.
-enum Gate {
-    Open,
+enum Admission {
+    Granted,
     Nil,
     Stale,
 }
 
 // Tests NX and XX, and after them VER.
-fn admit(table: &[u8], live: Found, presence: Presence, change: Change) -> Gate
+fn admit(table: &[u8], live: Found, presence: Presence, change: Change) -> Admission
     requires { ⌜ Sound (now table) live ⌝ }
-    ensures { λ r. ⌜ r ≡ gateOf (allowed (presenceOf presence) (liveOf (now (table .entry)) live)) (agrees (changeOf change) (liveOf (now (table .entry)) live)) ⌝ }
+    ensures { λ r. ⌜ r ≡ admissionOf (allowed (presenceOf presence) (liveOf (now (table .entry)) live)) (agrees (changeOf change) (liveOf (now (table .entry)) live)) ⌝ }
 {
     let allowed = live::allowed(presence, live);
     let agrees = live::agrees(table, live, change);
     if !allowed {
-        return Gate::Nil;
+        return Admission::Nil;
     }
     if !agrees {
-        return Gate::Stale;
+        return Admission::Stale;
     }
-    Gate::Open
+    Admission::Granted
 }
 
 // How a command answers once its value is stored. The flag says whether WITHVERSION is given.
@@ -110,9 +110,9 @@ pub fn set(
     ensures { λ r. ⌜ Does (held (now (table .entry)) (now (reply .entry))) (held (now (table .exit)) (now (reply .exit))) time live (exset (now (key .entry)) (now (value .entry)) (presenceOf presence) (changeOf change) (expireOf expire) flags «with_version») r ⌝ }
 {
     match admit(table, live, presence, change) {
-        Gate::Nil => access::nil(reply),
-        Gate::Stale => access::refuse(reply, 12),
-        Gate::Open => {
+        Admission::Nil => access::nil(reply),
+        Admission::Stale => access::refuse(reply, 12),
+        Admission::Granted => {
             let given = Flags::Set(flags);
             let stored = put::store_value(table, time, key, live, value, change, expire, given);
             finish(stored, Success::Set(with_version), reply)
@@ -153,9 +153,9 @@ pub fn increment(
     ensures { λ r. ⌜ Does (held (now (table .entry)) (now (reply .entry))) (held (now (table .exit)) (now (reply .exit))) time live (exincrby (now (key .entry)) by (presenceOf presence) (changeOf change) (expireOf expire) (boundOf min) (boundOf max) «non_negative» «with_version») r ⌝ }
 {
     match admit(table, live, presence, change) {
-        Gate::Nil => access::nil(reply),
-        Gate::Stale => access::refuse(reply, 12),
-        Gate::Open => match total(table, live, by, min, max, non_negative) {
+        Admission::Nil => access::nil(reply),
+        Admission::Stale => access::refuse(reply, 12),
+        Admission::Granted => match total(table, live, by, min, max, non_negative) {
             Total::Refused(number) => access::refuse(reply, number),
             Total::Value(z) => {
                 let stored = put::store_number(table, time, key, live, z, change, expire);
@@ -230,9 +230,9 @@ pub fn join(
     ensures { λ r. ⌜ Does (held (now (table .entry)) (now (reply .entry))) (held (now (table .exit)) (now (reply .exit))) time live (exjoin (endOf end) (now (key .entry)) (now (value .entry)) (presenceOf presence) (changeOf change)) r ⌝ }
 {
     match admit(table, live, presence, change) {
-        Gate::Nil => access::nil(reply),
-        Gate::Stale => access::refuse(reply, 12),
-        Gate::Open => {
+        Admission::Nil => access::nil(reply),
+        Admission::Stale => access::refuse(reply, 12),
+        Admission::Granted => {
             let stored = put::join_value(table, time, key, live, end, value, change);
             finish(stored, Success::Join, reply)
         }

@@ -19,7 +19,7 @@ use Rattle.count.specs.Total.{totalFrom, totalOf}
 use Rattle.count.proofs.Sums.{total-refused, total-value, total-comes, counted-total}
 use Rattle.put.specs.Put.{Put, putting, putEffect, Left, leftBy}
 use Rattle.put.proofs.Tests.{Below, put-comes}
-use Rattle.write.proofs.Outcomes.{Place, liveAt, outcome, putAt, gated, nil-outcome, stale-outcome, gate-passed, stored-ok}
+use Rattle.write.proofs.Outcomes.{Place, liveAt, outcome, putAt, admitted, nil-outcome, stale-outcome, admission-passed, stored-ok}
 use Rattle.write.proofs.increment.Statement.{statement}
 use Rattle.write.proofs.increment.Tie as tie
 
@@ -49,12 +49,12 @@ abbrev start : tie.After-admit → tie.Start
 start c = c .before .before .before .before .before
 
 passed : (c : tie.After-enum-told3) (x : Checked ℤ) → sums (start (c .before .before)) ≡ x
-    → gated (place (start (c .before .before))) (presence (start (c .before .before))) (writing (start (c .before .before)))
+    → admitted (place (start (c .before .before))) (presence (start (c .before .before))) (writing (start (c .before .before)))
     ≡ (x >>= λ z. ok (new (start (c .before .before)) z)) >>= putAt (place (start (c .before .before))) (writing (start (c .before .before)))
 passed c x e =
     let a = c .before .before in
     let s = start a in
-    gate-passed (place s) (writing s) (presence s) _ (a .admit .ensures) (c .enum-told3 .given .1) (x >>= λ z. ok (new s z))
+    admission-passed (place s) (writing s) (presence s) _ (a .admit .ensures) (c .enum-told3 .given .1) (x >>= λ z. ok (new s z))
     (counted-total (s .args .by) (boundOf (s .args .min)) (boundOf (s .args .max)) (s .args .non-negative) (valueIn (liveAt (place s))) (s .args .with-version)
     ∙ ap (λ (y : Checked ℤ). y >>= λ z. ok (new s z)) e)
 

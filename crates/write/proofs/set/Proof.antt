@@ -10,7 +10,7 @@ use Rattle.model.proofs.Calls.{Late}
 use Rattle.command.specs.Command.{presenceOf, changeOf, expireOf}
 use Rattle.put.specs.Put.{Put, putting}
 use Rattle.put.proofs.Tests.{Below, put-comes}
-use Rattle.write.proofs.Outcomes.{Place, outcome, putAt, gated, nil-outcome, stale-outcome, gate-passed, stored-ok}
+use Rattle.write.proofs.Outcomes.{Place, outcome, putAt, admitted, nil-outcome, stale-outcome, admission-passed, stored-ok}
 use Rattle.write.proofs.set.Statement.{statement}
 use Rattle.write.proofs.set.Tie as tie
 
@@ -34,12 +34,12 @@ abbrev start : tie.After-admit → tie.Start
 start c = c .before .before .before .before .before .before
 
 passed : (c : tie.After-enum-told3)
-    → gated (place (start (c .before .before))) (presence (start (c .before .before))) (writing (start (c .before .before)))
+    → admitted (place (start (c .before .before))) (presence (start (c .before .before))) (writing (start (c .before .before)))
     ≡ putAt (place (start (c .before .before))) (writing (start (c .before .before))) (new (start (c .before .before)))
 passed c =
     let a = c .before .before in
     let s = start a in
-    gate-passed (place s) (writing s) (presence s) _ (a .admit .ensures) (c .enum-told3 .given .1) (ok (new s)) refl
+    admission-passed (place s) (writing s) (presence s) _ (a .admit .ensures) (c .enum-told3 .given .1) (ok (new s)) refl
 
 -- a refusal of what is put has an error reply, and its version is in range
 comes : (s : tie.Start) → Comes Late Below (put s)
