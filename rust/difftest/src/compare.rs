@@ -1,0 +1,96 @@
+//! The library and the reference on the same input: they must agree in every byte.
+
+use crate::hex::hex;
+use crate::Case;
+use reference::{Answer, Shown};
+
+/// A call of the library, in the reference's terms.
+pub fn library(table: &mut [u8], time: u64, command: &[u8], reply: &mut [u8]) -> Answer {
+    let answer = pietrunel::call(table, time, command, reply);
+    Answer { number: answer.number(), len: answer.reply().len() }
+}
+
+/// Where the library's current value stands, in the reference's terms.
+fn library_current_value(table: &[u8], time: u64, command: &[u8]) -> Option<Shown> {
+    let value = pietrunel::current_value(table, time, command)?;
+    let start_in = |whole: &[u8]| {
+        let range = whole.as_ptr_range();
+        range.contains(&value.as_ptr()).then(|| value.as_ptr().addr() - range.start.addr())
+    };
+    let len = value.len();
+    Some(match start_in(command) {
+        Some(start) => Shown { in_command: true, start, len },
+        None => Shown { in_command: false, start: start_in(table)?, len },
+    })
+}
+
+/// A case after a call, with what was answered.
+#[derive(Clone, Debug, PartialEq, Eq)]
+pub struct Outcome {
+    pub answer: Answer,
+    pub table: Vec<u8>,
+    pub reply: Vec<u8>,
+}
+
+impl Case {
+    /// The outcome of this case in a store.
+    pub fn run(
+        &self,
+        store: impl FnOnce(&mut [u8], u64, &[u8], &mut [u8]) -> Answer,
+    ) -> Outcome {
+        let (mut table, mut reply) = (self.table.clone(), self.reply.clone());
+        let answer = store(&mut table, self.time, &self.command, &mut reply);
+        Outcome { answer, table, reply }
+    }
+
+    /// The outcome in both stores, or how they differ and how to see it again.
+    pub fn compare(&self) -> Result<Outcome, String> {
+        let outcome = self.run(reference::call);
+        match difference(&self.run(library), &outcome) {
+            Some(difference) => Err(format!("{difference}\n{}", self.again())),
+            None => Ok(outcome),
+        }
+    }
+
+    /// Where the current value stands by both stores, or how they differ.
+    pub fn compare_current_value(&self) -> Result<Option<Shown>, String> {
+        let shown = reference::current_value(&self.table, self.time, &self.command);
+        // NOT YET: the test goes once every libpietrunel.a has the function.
+        if !pietrunel::HAS_CURRENT_VALUE {
+            return Ok(shown);
+        }
+        let library = library_current_value(&self.table, self.time, &self.command);
+        if library == shown {
+            return Ok(shown);
+        }
+        Err(format!(
+            "current value: library {library:?}, reference {shown:?}\n{}",
+            self.again()
+        ))
+    }
+
+    /// The command line that runs this case alone.
+    pub fn again(&self) -> String {
+        format!(
+            "run it again, in rust/: cargo run --release --offline --bin replay -- {} {} {} {}",
+            hex(&self.table),
+            self.time,
+            hex(&self.command),
+            hex(&self.reply)
+        )
+    }
+}
+
+/// How the library's outcome differs from the reference's, if it does.
+pub fn difference(library: &Outcome, reference: &Outcome) -> Option<String> {
+    if library.answer != reference.answer {
+        return Some(format!("library {:?}, reference {:?}", library.answer, reference.answer));
+    }
+    first_difference("table", &library.table, &reference.table)
+        .or_else(|| first_difference("reply", &library.reply, &reference.reply))
+}
+
+fn first_difference(name: &str, library: &[u8], reference: &[u8]) -> Option<String> {
+    let at = library.iter().zip(reference).position(|(a, b)| a != b)?;
+    Some(format!("{name} byte {at}: library {}, reference {}", library[at], reference[at]))
+}

@@ -1,0 +1,80 @@
+//! Random cases and histories, on which the library must agree with the
+//! reference.
+//!
+//! `case` makes one call's table, time, command and reply buffer. `compare`
+//! runs it on both stores. `history` makes whole lists of calls on one record
+//! and checks their answers against a serial execution.
+
+#![forbid(unsafe_code)]
+
+mod commands;
+mod frames;
+mod tables;
+mod words;
+
+pub mod compare;
+pub mod expect;
+pub mod hex;
+pub mod history;
+pub mod layout;
+pub mod resp;
+pub mod rng;
+pub mod settings;
+
+pub use reference::Answer;
+pub use rng::Rng;
+
+use commands::Faults;
+
+/// The shortest reply buffer that a store takes.
+const REPLY_ROOM: usize = 128;
+
+/// The input of one call.
+#[derive(Clone, Debug, PartialEq, Eq)]
+pub struct Case {
+    pub table: Vec<u8>,
+    pub time: u64,
+    pub command: Vec<u8>,
+    pub reply: Vec<u8>,
+}
+
+/// A case with a table of 1 to 256 records, mostly few.
+pub fn case(rng: &mut Rng) -> Case {
+    let faults = Faults::random(rng);
+    let now = words::time(rng);
+    let mut table = tables::good(rng, layout::MAX_RECORDS, now);
+    let time = case_time(rng, &faults, now, &table);
+    let command = commands::command(rng, &faults, &table, time);
+    if faults.has(1) {
+        tables::damage(rng, &mut table);
+    }
+    let room = reply_room(rng, &faults);
+    Case { table, time, command, reply: rng.bytes(room) }
+}
+
+fn reply_room(rng: &mut Rng, faults: &Faults) -> usize {
+    match (faults.has(3), rng.chance(50)) {
+        (true, true) => rng.pick(&[0, 1, 64, 126, 127, 127]),
+        (true, false) => rng.below(REPLY_ROOM),
+        (false, true) => rng.pick(&[128, 128, 129, 256, 300]),
+        (false, false) => rng.between(REPLY_ROOM, 300),
+    }
+}
+
+/// Mostly the time that the table was made for, or one beside an expiry.
+fn case_time(rng: &mut Rng, faults: &Faults, now: u64, table: &[u8]) -> u64 {
+    if faults.has(2) {
+        return match rng.below(4) {
+            0 => layout::MAX_TIME + 1,
+            1 => u64::MAX,
+            2 => 1 << 63,
+            _ => rng.next_u64() | (layout::MAX_TIME + 1),
+        };
+    }
+    if rng.chance(25) {
+        let slot = rng.below(layout::records(table).len());
+        let expiry = layout::expiry(&layout::records(table)[slot]);
+        return (expiry + rng.below(3) as u64).saturating_sub(1).min(layout::MAX_TIME);
+    }
+    now
+}

@@ -1,0 +1,25 @@
+//! What a test run takes from its environment.
+
+use std::env;
+
+/// The seed: PIETRUNEL_SEED, or else always the same.
+pub fn seed() -> u64 {
+    number("PIETRUNEL_SEED", 20_240_601)
+}
+
+/// How many random calls are compared: PIETRUNEL_CALLS for a longer run.
+pub fn calls() -> u64 {
+    number("PIETRUNEL_CALLS", 200_000)
+}
+
+/// How many random histories are checked: PIETRUNEL_HISTORIES for a longer run.
+pub fn histories() -> u64 {
+    number("PIETRUNEL_HISTORIES", 20_000)
+}
+
+fn number(name: &str, default: u64) -> u64 {
+    match env::var(name) {
+        Ok(text) => text.parse().unwrap_or_else(|_| panic!("{name} is no number: {text}")),
+        Err(_) => default,
+    }
+}

@@ -1,0 +1,82 @@
+//! The library's C functions, and all unsafe code of this crate.
+
+extern "C" {
+    fn pietrunel_call(
+        table: *mut u8,
+        table_len: usize,
+        time_ms: u64,
+        command: *const u8,
+        command_len: usize,
+        reply: *mut u8,
+        reply_cap: usize,
+        reply_len: *mut usize,
+    ) -> u32;
+
+    #[cfg(has_current_value)]
+    fn pietrunel_current_value(
+        table: *const u8,
+        table_len: usize,
+        time_ms: u64,
+        command: *const u8,
+        command_len: usize,
+        in_command: *mut bool,
+        start: *mut usize,
+        len: *mut usize,
+    ) -> bool;
+}
+
+/// Where a current value stands: in the command, or else in the table.
+#[derive(Default)]
+pub struct Shown {
+    pub in_command: bool,
+    pub start: usize,
+    pub len: usize,
+}
+
+/// The number and the reply's length.
+pub fn call(table: &mut [u8], time_ms: u64, command: &[u8], reply: &mut [u8]) -> (u32, usize) {
+    let mut len = 0;
+    // SAFETY: each pointer comes from a slice with the length beside it, or from `len`, and the
+    // mutable ones are borrowed alone. The library is proved to read and write only there; it
+    // keeps no pointer.
+    let number = unsafe {
+        pietrunel_call(
+            table.as_mut_ptr(),
+            table.len(),
+            time_ms,
+            command.as_ptr(),
+            command.len(),
+            reply.as_mut_ptr(),
+            reply.len(),
+            &mut len,
+        )
+    };
+    (number, len)
+}
+
+/// Where the current value stands, if one is shown.
+#[cfg(has_current_value)]
+pub fn current_value(table: &[u8], time_ms: u64, command: &[u8]) -> Option<Shown> {
+    let mut shown = Shown::default();
+    // SAFETY: each pointer comes from a slice with the length beside it, which is only read, or
+    // from a field of `shown`. The library keeps no pointer; a `bool` of C is one of Rust.
+    let any = unsafe {
+        pietrunel_current_value(
+            table.as_ptr(),
+            table.len(),
+            time_ms,
+            command.as_ptr(),
+            command.len(),
+            &mut shown.in_command,
+            &mut shown.start,
+            &mut shown.len,
+        )
+    };
+    any.then_some(shown)
+}
+
+// NOT YET: stands in until every libpietrunel.a has the function.
+#[cfg(not(has_current_value))]
+pub fn current_value(_: &[u8], _: u64, _: &[u8]) -> Option<Shown> {
+    unimplemented!("this libpietrunel.a does not export pietrunel_current_value")
+}

@@ -1,0 +1,59 @@
+//! Safe calls of Pietrunel, a small verified store.
+//!
+//! The library keeps nothing: each call is handed a table, a time and one RESP2 command, and
+//! changes at most one record of the table. `include/pietrunel.h` gives the table's layout.
+//!
+//! ```
+//! use pietrunel::{call, Answer};
+//!
+//! let mut table = [0; 4 * pietrunel::RECORD_SIZE];
+//! let mut reply = [0; pietrunel::REPLY_ROOM];
+//! let set = b"*3\r\n$5\r\nEXSET\r\n$3\r\nfoo\r\n$3\r\n100\r\n";
+//! assert_eq!(call(&mut table, 1000, set, &mut reply), Answer::Reply(b"+OK\r\n"));
+//! let get = b"*2\r\n$5\r\nEXGET\r\n$3\r\nfoo\r\n";
+//! assert_eq!(call(&mut table, 1000, get, &mut reply), Answer::Reply(b"*2\r\n$3\r\n100\r\n:1\r\n"));
+//! ```
+
+#![deny(unsafe_code)]
+
+mod answer;
+#[allow(unsafe_code)]
+mod ffi;
+
+pub use answer::{Answer, Error, Rejection};
+
+/// The bytes of a record.
+pub const RECORD_SIZE: usize = 128;
+
+/// The most records in a table.
+pub const MAX_RECORDS: usize = 256;
+
+/// The shortest reply buffer that is taken. Every reply fits in it.
+pub const REPLY_ROOM: usize = 128;
+
+/// The longest command.
+pub const MAX_COMMAND: usize = 512;
+
+/// Applies one command to a table, at a time in milliseconds.
+pub fn call<'r>(
+    table: &mut [u8],
+    time_ms: u64,
+    command: &[u8],
+    reply: &'r mut [u8],
+) -> Answer<'r> {
+    let (number, len) = ffi::call(table, time_ms, command, reply);
+    Answer::new(number, &reply[..len])
+}
+
+/// The value that stands at the key after an EXGET or EXCAS: a part of the command where the
+/// EXCAS would succeed, else a part of the table. None for any other command, a key that is not
+/// live, or a command that would be refused. Nothing is changed.
+pub fn current_value<'a>(table: &'a [u8], time_ms: u64, command: &'a [u8]) -> Option<&'a [u8]> {
+    let shown = ffi::current_value(table, time_ms, command)?;
+    let whole = if shown.in_command { command } else { table };
+    Some(&whole[shown.start..shown.start + shown.len])
+}
+
+// NOT YET: goes once every libpietrunel.a exports pietrunel_current_value; until then
+// `current_value` must not be called where this is false.
+pub const HAS_CURRENT_VALUE: bool = cfg!(has_current_value);
