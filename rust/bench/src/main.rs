@@ -36,7 +36,10 @@ fn main() -> ExitCode {
         let f = figures(&mut row);
         let mark = if f.ratio > ROW_BAR { " *" } else { "" };
         let (name, records) = (row.name, row.records);
-        println!("{name:12} {records:7} {:9.1} {:9.1} {:6.2}{mark}", f.library, f.reference, f.ratio);
+        println!(
+            "{name:12} {records:7} {:9.1} {:9.1} {:6.2}{mark}",
+            f.library, f.reference, f.ratio
+        );
         lines.push(Line { name, records, time: f.library, ratio: f.ratio });
     }
     verdict(&lines)
@@ -45,10 +48,16 @@ fn main() -> ExitCode {
 fn verdict(lines: &[Line]) -> ExitCode {
     let mean = (lines.iter().map(|line| line.ratio.ln()).sum::<f64>() / lines.len() as f64).exp();
     let worst = lines.iter().max_by(|a, b| a.ratio.total_cmp(&b.ratio)).unwrap();
-    let (steepest, growth) =
-        NAMES.map(|name| (name, growth(lines, name))).into_iter().max_by(|a, b| a.1.total_cmp(&b.1)).unwrap();
+    let (steepest, growth) = NAMES
+        .map(|name| (name, growth(lines, name)))
+        .into_iter()
+        .max_by(|a, b| a.1.total_cmp(&b.1))
+        .unwrap();
     println!("geometric mean  {mean:.2}, bar {MEAN_BAR:.2}");
-    println!("worst row       {:.2}, bar {ROW_BAR:.2}: {} at {}", worst.ratio, worst.name, worst.records);
+    println!(
+        "worst row       {:.2}, bar {ROW_BAR:.2}: {} at {}",
+        worst.ratio, worst.name, worst.records
+    );
     println!("steepest growth {growth:.2}, bar {GROWTH_BAR:.2}: {steepest}");
     if mean > MEAN_BAR || worst.ratio > ROW_BAR || growth > GROWTH_BAR {
         println!("a bar is missed");

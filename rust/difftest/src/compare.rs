@@ -34,10 +34,7 @@ pub struct Outcome {
 
 impl Case {
     /// The outcome of this case in a store.
-    pub fn run(
-        &self,
-        store: impl FnOnce(&mut [u8], u64, &[u8], &mut [u8]) -> Answer,
-    ) -> Outcome {
+    pub fn run(&self, store: impl FnOnce(&mut [u8], u64, &[u8], &mut [u8]) -> Answer) -> Outcome {
         let (mut table, mut reply) = (self.table.clone(), self.reply.clone());
         let answer = store(&mut table, self.time, &self.command, &mut reply);
         Outcome { answer, table, reply }
@@ -63,10 +60,7 @@ impl Case {
         if library == shown {
             return Ok(shown);
         }
-        Err(format!(
-            "current value: library {library:?}, reference {shown:?}\n{}",
-            self.again()
-        ))
+        Err(format!("current value: library {library:?}, reference {shown:?}\n{}", self.again()))
     }
 
     /// The command line that runs this case alone.

@@ -35,12 +35,7 @@ pub const REPLY_ROOM: usize = 128;
 pub const MAX_COMMAND: usize = 512;
 
 /// Applies one command to a table, at a time in milliseconds.
-pub fn call<'r>(
-    table: &mut [u8],
-    time_ms: u64,
-    command: &[u8],
-    reply: &'r mut [u8],
-) -> Answer<'r> {
+pub fn call<'r>(table: &mut [u8], time_ms: u64, command: &[u8], reply: &'r mut [u8]) -> Answer<'r> {
     let (number, len) = ffi::call(table, time_ms, command, reply);
     Answer::new(number, &reply[..len])
 }

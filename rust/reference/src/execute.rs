@@ -1,10 +1,12 @@
 //! What a command does to the table, and its reply.
 
-use crate::command::{Condition, ExpiryRule, Name, Request, VersionRule};
+use crate::command::{Name, Request};
 use crate::number;
+use crate::options::{Condition, ExpiryRule, VersionRule};
+use crate::record::{self, Record};
 use crate::refusal::Refusal;
-use crate::resp::Writer;
-use crate::table::{self, Place, Record};
+use crate::reply::Writer;
+use crate::table::{self, Place};
 use crate::Shown;
 
 /// Why the version did not fit, as EXCAS tells it: no error reply.
@@ -18,7 +20,7 @@ pub fn run(
     table: &mut [u8],
     reply: &mut Writer,
 ) -> Result<(), Refusal> {
-    let record = place.slot().map(|slot| table::record_mut(table, slot));
+    let record = place.slot().map(|slot| table::record_in_mut(table, slot));
     match record {
         Some(record) if place.live => run_on_live(request, record, reply),
         record => run_on_absent(request, record, reply),
@@ -27,9 +29,9 @@ pub fn run(
 
 fn run_on_live(request: &Request, record: &mut Record, reply: &mut Writer) -> Result<(), Refusal> {
     match request.name {
-        Name::ExGet => show(record, request.with_flags, reply),
+        Name::ExGet => show(record, request.options.with_flags, reply),
         Name::ExSetVer => {
-            table::set_version(record, request.version);
+            record::set_version(record, request.version);
             reply.integer(1);
         }
         Name::ExCas => return compare_and_set(request, record, reply),
@@ -39,11 +41,11 @@ fn run_on_live(request: &Request, record: &mut Record, reply: &mut Writer) -> Re
             show(record, true, reply);
         }
         Name::Del => {
-            table::clear(record);
+            record::clear(record);
             reply.integer(1);
         }
         Name::ExSet | Name::ExIncrBy | Name::ExAppend | Name::ExPrepend => {
-            if request.condition == Condition::IfAbsent {
+            if request.options.condition == Condition::IfAbsent {
                 reply.nil();
             } else {
                 return change(request, record, reply);
@@ -64,7 +66,7 @@ fn run_on_absent(
         Name::ExSetVer | Name::Del => reply.integer(0),
         Name::ExCas | Name::ExCad => reply.integer(-1),
         Name::ExSet | Name::ExIncrBy | Name::ExAppend | Name::ExPrepend => {
-            if request.condition == Condition::IfLive {
+            if request.options.condition == Condition::IfLive {
                 reply.nil();
             } else {
                 return create(request, record, reply);
@@ -77,10 +79,10 @@ fn run_on_absent(
 /// The array of value and version, perhaps with flags.
 fn show(record: &Record, with_flags: bool, reply: &mut Writer) {
     reply.array(if with_flags { 3 } else { 2 });
-    reply.bulk(table::value(record));
-    reply.integer(table::version(record) as i64);
+    reply.bulk(record::value(record));
+    reply.integer(record::version(record) as i64);
     if with_flags {
-        reply.integer(table::flags(record).into());
+        reply.integer(record::flags(record).into());
     }
 }
 
@@ -89,19 +91,19 @@ fn compare_and_set(
     record: &mut Record,
     reply: &mut Writer,
 ) -> Result<(), Refusal> {
-    let current = table::version(record);
+    let current = record::version(record);
     if request.version != current {
         reply.array(3);
         reply.simple(STALE);
-        reply.bulk(table::value(record));
+        reply.bulk(record::value(record));
         reply.integer(current as i64);
         return Ok(());
     }
     let version = raised(current)?;
-    table::set_value(record, request.value);
-    table::set_version(record, version);
-    if request.expiry_rule == ExpiryRule::NotGiven {
-        table::set_expiry(record, 0);
+    record::set_value(record, request.value);
+    record::set_version(record, version);
+    if request.options.expiry_rule == ExpiryRule::NotGiven {
+        record::set_expiry(record, 0);
     } else {
         store_expiry(request, record);
     }
@@ -113,9 +115,9 @@ fn compare_and_set(
 }
 
 fn compare_and_delete(request: &Request, record: &mut Record, reply: &mut Writer) {
-    let equal = request.version == table::version(record);
+    let equal = request.version == record::version(record);
     if equal {
-        table::clear(record);
+        record::clear(record);
     }
     reply.integer(equal.into());
 }
@@ -123,37 +125,37 @@ fn compare_and_delete(request: &Request, record: &mut Record, reply: &mut Writer
 /// EXSET, EXINCRBY, EXAPPEND or EXPREPEND on a live key. All tests come
 /// before the first write.
 fn change(request: &Request, record: &mut Record, reply: &mut Writer) -> Result<(), Refusal> {
-    let current = table::version(record);
-    if matches!(request.version_rule, VersionRule::RaiseIfEqual(v) if v != current) {
+    let current = record::version(record);
+    if matches!(request.options.version_rule, VersionRule::RaiseIfEqual(v) if v != current) {
         return Err(Refusal::StaleVersion);
     }
     let sum = match request.name {
         Name::ExIncrBy => {
-            let stored = number::signed(table::value(record)).ok_or(Refusal::StoredNotANumber)?;
+            let stored = number::signed(record::value(record)).ok_or(Refusal::StoredNotANumber)?;
             add(request, stored)?
         }
         _ => 0,
     };
-    let version = match request.version_rule {
+    let version = match request.options.version_rule {
         VersionRule::Store(version) => version,
         _ => raised(current)?,
     };
     let joins = matches!(request.name, Name::ExAppend | Name::ExPrepend);
-    if joins && table::value(record).len() + request.value.len() > table::MAX_VALUE {
+    if joins && record::value(record).len() + request.value.len() > record::MAX_VALUE {
         return Err(Refusal::JoinedTooLong);
     }
 
     match request.name {
-        Name::ExAppend => table::append(record, request.value),
-        Name::ExPrepend => table::prepend(record, request.value),
-        Name::ExIncrBy => table::set_number(record, sum),
+        Name::ExAppend => record::append(record, request.value),
+        Name::ExPrepend => record::prepend(record, request.value),
+        Name::ExIncrBy => record::set_number(record, sum),
         _ => {
-            table::set_value(record, request.value);
-            table::set_flags(record, request.flags);
-            table::set_expiry(record, 0);
+            record::set_value(record, request.value);
+            record::set_flags(record, request.options.flags);
+            record::set_expiry(record, 0);
         }
     }
-    table::set_version(record, version);
+    record::set_version(record, version);
     store_expiry(request, record);
     reply_to_write(request, sum, version, reply);
     Ok(())
@@ -170,18 +172,18 @@ fn create(
         _ => 0,
     };
     let record = record.ok_or(Refusal::TableFull)?;
-    let version = match request.version_rule {
+    let version = match request.options.version_rule {
         VersionRule::Store(version) => version,
         _ => 1,
     };
-    table::start(record, &request.key);
+    record::start(record, &request.key);
     match request.name {
-        Name::ExIncrBy => table::set_number(record, sum),
-        _ => table::set_value(record, request.value),
+        Name::ExIncrBy => record::set_number(record, sum),
+        _ => record::set_value(record, request.value),
     }
     // Only EXSET has flags to give; those of the others are 0.
-    table::set_flags(record, request.flags);
-    table::set_version(record, version);
+    record::set_flags(record, request.options.flags);
+    record::set_version(record, version);
     store_expiry(request, record);
     reply_to_write(request, sum, version, reply);
     Ok(())
@@ -189,7 +191,7 @@ fn create(
 
 fn reply_to_write(request: &Request, sum: i64, version: u64, reply: &mut Writer) {
     let version = version as i64;
-    match (request.name, request.with_version) {
+    match (request.name, request.options.with_version) {
         (Name::ExSet, false) => reply.simple(b"OK"),
         (Name::ExIncrBy, false) => reply.integer(sum),
         (Name::ExIncrBy, true) => {
@@ -204,14 +206,14 @@ fn reply_to_write(request: &Request, sum: i64, version: u64, reply: &mut Writer)
 /// The sum, within its bounds; only then is a negative one made 0.
 fn add(request: &Request, stored: i64) -> Result<i64, Refusal> {
     let sum = stored.checked_add(request.increment).ok_or(Refusal::SumOutOfRange)?;
-    if sum < request.min || sum > request.max {
+    if sum < request.options.min || sum > request.options.max {
         return Err(Refusal::SumOutOfRange);
     }
-    Ok(if request.no_negative { sum.max(0) } else { sum })
+    Ok(if request.options.no_negative { sum.max(0) } else { sum })
 }
 
 fn raised(version: u64) -> Result<u64, Refusal> {
-    if version == table::MAX_VERSION {
+    if version == record::MAX_VERSION {
         return Err(Refusal::VersionAtTop);
     }
     Ok(version + 1)
@@ -219,8 +221,8 @@ fn raised(version: u64) -> Result<u64, Refusal> {
 
 /// Stores the expiry that a time word gave; without one it stays.
 fn store_expiry(request: &Request, record: &mut Record) {
-    if let ExpiryRule::Store(expiry) = request.expiry_rule {
-        table::set_expiry(record, expiry);
+    if let ExpiryRule::Store(expiry) = request.options.expiry_rule {
+        record::set_expiry(record, expiry);
     }
 }
 
@@ -233,8 +235,8 @@ pub fn shows_value(request: &Request) -> bool {
 /// else the record's.
 pub fn current_value(request: &Request, place: &Place, table: &[u8]) -> Option<Shown> {
     let slot = place.key_slot.filter(|_| place.live)?;
-    let record = table::record(table, slot);
-    let current = table::version(record);
+    let record = table::record_in(table, slot);
+    let current = record::version(record);
     if request.name == Name::ExCas && request.version == current {
         raised(current).ok()?;
         return Some(Shown {
@@ -245,7 +247,7 @@ pub fn current_value(request: &Request, place: &Place, table: &[u8]) -> Option<S
     }
     Some(Shown {
         in_command: false,
-        start: slot * table::RECORD + table::VALUE_AT,
-        len: table::value(record).len(),
+        start: slot * record::RECORD + record::VALUE_AT,
+        len: record::value(record).len(),
     })
 }

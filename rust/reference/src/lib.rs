@@ -9,8 +9,13 @@
 mod bytes;
 mod command;
 mod execute;
+mod key;
+mod keyword;
 mod number;
+mod options;
+mod record;
 mod refusal;
+mod reply;
 mod resp;
 mod table;
 
@@ -38,7 +43,7 @@ pub fn call(table: &mut [u8], time: u64, command: &[u8], reply: &mut [u8]) -> An
     // The command is read first, so that one pass over the table can both
     // check it and find the key. The order of the refusals is kept below.
     let request = command::read(command, time);
-    let key = request.as_ref().map_or(&table::Key::NONE, |request| &request.key);
+    let key = request.as_ref().map_or(&key::Key::NONE, |request| &request.key);
 
     let Some(place) = table::scan(table, time, key) else {
         return silent(Refusal::DamagedTable);
@@ -46,10 +51,10 @@ pub fn call(table: &mut [u8], time: u64, command: &[u8], reply: &mut [u8]) -> An
     if time > table::MAX_TIME {
         return silent(Refusal::TimeOutOfRange);
     }
-    let Some(buffer) = reply.first_chunk_mut::<{ resp::REPLY_ROOM }>() else {
+    let Some(buffer) = reply.first_chunk_mut::<{ reply::REPLY_ROOM }>() else {
         return silent(Refusal::ShortReplyBuffer);
     };
-    let mut out = resp::Writer::new(buffer);
+    let mut out = reply::Writer::new(buffer);
     let done = match &request {
         Ok(request) => execute::run(request, &place, table, &mut out),
         Err(Refusal::MalformedCommand) => return silent(Refusal::MalformedCommand),

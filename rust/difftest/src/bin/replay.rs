@@ -47,6 +47,10 @@ fn print(name: &str, case: &Case, outcome: &Outcome) {
     println!("{name:10} number {}, reply {}", outcome.answer.number, reply.escape_ascii());
     let records = case.table.chunks(128).zip(outcome.table.chunks(128)).enumerate();
     for (slot, (before, after)) in records.filter(|(_, (before, after))| before != after) {
-        println!("  slot {slot} was {}\n  slot {slot} is  {}", before.escape_ascii(), after.escape_ascii());
+        println!(
+            "  slot {slot} was {}\n  slot {slot} is  {}",
+            before.escape_ascii(),
+            after.escape_ascii()
+        );
     }
 }
