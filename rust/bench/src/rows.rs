@@ -12,17 +12,8 @@ pub const RECORD: usize = 128;
 pub const SIZES: [usize; 5] = [1, 16, 64, 200, 256];
 
 pub const NAMES: [&str; 11] = [
-    "EXGET hit",
-    "EXGET miss",
-    "EXSET live",
-    "EXSET new",
-    "EXCAS OK",
-    "EXCAS stale",
-    "EXINCRBY",
-    "EXAPPEND",
-    "malformed",
-    "damaged",
-    "equal keys",
+    "EXGET hit", "EXGET miss", "EXSET live", "EXSET new", "EXCAS OK", "EXCAS stale", "EXINCRBY",
+    "EXAPPEND", "malformed", "damaged", "equal keys",
 ];
 
 /// How many commands a row has, on slots all over the table.

@@ -91,7 +91,7 @@ pub fn current_value(before: &Case, after: &Outcome, shown: Option<Shown>) {
 
 /// The name of a command that was answered and the form of its reply: nil,
 /// numbers, arrays.
-pub fn form(case: &Case, outcome: &Outcome) -> (String, String) {
+pub fn form(case: &Case, outcome: &Outcome) -> String {
     let name = String::from_utf8(decode(&case.command).unwrap()[0].to_ascii_uppercase()).unwrap();
     let counts = ["EXSET", "EXINCRBY", "EXAPPEND", "EXPREPEND"].contains(&name.as_str());
     let text = |bytes: &[u8]| String::from_utf8(bytes.to_vec()).unwrap();
@@ -109,5 +109,5 @@ pub fn form(case: &Case, outcome: &Outcome) -> (String, String) {
         },
         other => panic!("{other:?}"),
     };
-    (name, form)
+    format!("{name}: {form}")
 }

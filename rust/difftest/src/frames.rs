@@ -18,6 +18,10 @@ pub fn stretch(rng: &mut Rng, mut words: Vec<Vec<u8>>) -> Vec<u8> {
     resp::encode(&words)
 }
 
+/// What is no command at all.
+const FRAGMENTS: &[&str] =
+    &["", "*", "$", "*1", "*1\r", "*1\r\n", "*0\r\n", "EXGET foo\r\n", "$-1\r\n", "+OK\r\n"];
+
 /// Breaks the command's form in one of many ways.
 pub fn damage(rng: &mut Rng, command: &mut Vec<u8>) {
     match rng.below(14) {
@@ -35,22 +39,7 @@ pub fn damage(rng: &mut Rng, command: &mut Vec<u8>) {
             let at = rng.below(command.len());
             command[at] ^= 1 << rng.below(8);
         }
-        12 => {
-            *command = rng
-                .pick(&[
-                    "",
-                    "*",
-                    "$",
-                    "*1",
-                    "*1\r",
-                    "*1\r\n",
-                    "*0\r\n",
-                    "EXGET foo\r\n",
-                    "$-1\r\n",
-                    "+OK\r\n",
-                ])
-                .into()
-        }
+        12 => *command = rng.pick(FRAGMENTS).into(),
         _ => {
             let len = rng.below(600);
             *command = rng.bytes(len);

@@ -132,21 +132,8 @@ mod tests {
     #[test]
     fn options_have_bits_of_their_own() {
         let words = [
-            "EX",
-            "PX",
-            "EXAT",
-            "PXAT",
-            "KEEPTTL",
-            "NX",
-            "XX",
-            "VER",
-            "ABS",
-            "FLAGS",
-            "MIN",
-            "MAX",
-            "NONEGATIVE",
-            "WITHVERSION",
-            "WITHFLAGS",
+            "EX", "PX", "EXAT", "PXAT", "KEEPTTL", "NX", "XX", "VER", "ABS", "FLAGS", "MIN", "MAX",
+            "NONEGATIVE", "WITHVERSION", "WITHFLAGS",
         ];
         let mut all = 0;
         for word in words {

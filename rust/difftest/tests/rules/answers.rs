@@ -54,50 +54,41 @@ fn options_in_any_order_and_case() {
     store.refuse("EXSET k v FLAGS -1", 9);
 }
 
+/// The start of a command, and options that it refuses.
+const REFUSED_OPTIONS: [(&str, &[&str]); 6] = [
+    (
+        "EXSET k v",
+        &[
+            "NX NX", "NX XX", "XX NX", "VER 1 ABS 1", "ABS 1 VER 1", "VER 1 VER 1", "EX 1 PX 1",
+            "EXAT 1 EX 1", "PXAT 1 PXAT 1", "FLAGS 1 FLAGS 1", "WITHVERSION WITHVERSION",
+            "WITHFLAGS", "MIN 1", "NONEGATIVE", "KEEPTTL", "VER", "NX VER", "5",
+        ],
+    ),
+    (
+        "EXINCRBY k 1",
+        &["FLAGS 1", "KEEPTTL", "MIN 1 MIN 1", "MAX 1 MAX 1", "NONEGATIVE NONEGATIVE", "WITHFLAGS"],
+    ),
+    (
+        "EXAPPEND k 1",
+        &["EX 1", "FLAGS 1", "WITHVERSION", "KEEPTTL", "MIN 1", "NX XX", "VER 1 ABS 1"],
+    ),
+    (
+        "EXPREPEND k 1",
+        &["EX 1", "FLAGS 1", "WITHVERSION", "KEEPTTL", "MIN 1", "NX XX", "VER 1 ABS 1"],
+    ),
+    ("EXCAS k v 1", &["NX", "VER 1", "FLAGS 1", "WITHVERSION", "EX 1 PX 1"]),
+    ("EXGAE k", &["", "KEEPTTL", "NX", "EX", "EX 1 EX 1", "EX 1 PXAT 1", "WITHFLAGS EX 1"]),
+];
+
 #[test]
 fn options_that_are_refused() {
     let mut store = Store::new(1);
-    for options in [
-        "NX NX",
-        "NX XX",
-        "XX NX",
-        "VER 1 ABS 1",
-        "ABS 1 VER 1",
-        "VER 1 VER 1",
-        "EX 1 PX 1",
-        "EXAT 1 EX 1",
-        "PXAT 1 PXAT 1",
-        "FLAGS 1 FLAGS 1",
-        "WITHVERSION WITHVERSION",
-        "WITHFLAGS",
-        "MIN 1",
-        "NONEGATIVE",
-        "KEEPTTL",
-        "VER",
-        "NX VER",
-        "5",
-    ] {
-        store.refuse(&format!("EXSET k v {options}"), 8);
-    }
-    store.refuse_words(&[b"EXSET", b"k", b"v", b""], 8);
-    for options in
-        ["FLAGS 1", "KEEPTTL", "MIN 1 MIN 1", "MAX 1 MAX 1", "NONEGATIVE NONEGATIVE", "WITHFLAGS"]
-    {
-        store.refuse(&format!("EXINCRBY k 1 {options}"), 8);
-    }
-    for name in ["EXAPPEND", "EXPREPEND"] {
-        for options in
-            ["EX 1", "FLAGS 1", "WITHVERSION", "KEEPTTL", "MIN 1", "NX XX", "VER 1 ABS 1"]
-        {
-            store.refuse(&format!("{name} k 1 {options}"), 8);
+    for (start, all) in REFUSED_OPTIONS {
+        for options in all {
+            store.refuse(&format!("{start} {options}"), 8);
         }
     }
-    for options in ["NX", "VER 1", "FLAGS 1", "WITHVERSION", "EX 1 PX 1"] {
-        store.refuse(&format!("EXCAS k v 1 {options}"), 8);
-    }
-    for options in ["", "KEEPTTL", "NX", "EX", "EX 1 EX 1", "EX 1 PXAT 1", "WITHFLAGS EX 1"] {
-        store.refuse(&format!("EXGAE k {options}"), 8);
-    }
+    store.refuse_words(&[b"EXSET", b"k", b"v", b""], 8);
 }
 
 #[test]

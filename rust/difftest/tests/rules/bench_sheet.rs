@@ -2,52 +2,34 @@
 
 use super::*;
 
+/// A record of the key foo without flags or expiry.
+fn foo(version: u8, value: &[u8]) -> [u8; 128] {
+    let lengths = [1, 3, value.len() as u8, 0];
+    record(&[(0, &lengths), (8, &[version]), (24, b"foo"), (48, value)])
+}
+
 #[test]
 fn rows_p1_to_p11() {
+    let stale = "*3\r\n+ERR update version is stale\r\n$3\r\n400\r\n:101\r\n";
+    let min_max = "-ERR min or max is specified, but not valid\r\n";
+    let empty = [0; 128];
     let mut store = Store::new(1);
-
-    store.answer("EXSET foo 100", "+OK\r\n");
-    let p1 = record(&[(0, &[1, 3, 3, 0]), (8, &[1]), (24, b"foo"), (48, b"100")]);
-    assert_eq!(store.record(0), p1);
-
-    store.answer("EXSET foo 200 VER 1", "+OK\r\n");
-    let p2 = record(&[(0, &[1, 3, 3, 0]), (8, &[2]), (24, b"foo"), (48, b"200")]);
-    assert_eq!(store.record(0), p2);
-
-    store.expect("EXSET foo 300 VER 1", 12, "-ERR update version is stale\r\n");
-    assert_eq!(store.record(0), p2);
-
-    store.answer("EXINCRBY foo 100", ":300\r\n");
-    let p4 = record(&[(0, &[1, 3, 3, 0]), (8, &[3]), (24, b"foo"), (48, b"300")]);
-    assert_eq!(store.record(0), p4);
-
-    store.answer("EXSETVER foo 100", ":1\r\n");
-    let p5 = record(&[(0, &[1, 3, 3, 0]), (8, &[100]), (24, b"foo"), (48, b"300")]);
-    assert_eq!(store.record(0), p5);
-
-    store.answer("EXCAS foo 400 100", "*3\r\n+OK\r\n+\r\n:101\r\n");
-    let p6 = record(&[(0, &[1, 3, 3, 0]), (8, &[101]), (24, b"foo"), (48, b"400")]);
-    assert_eq!(store.record(0), p6);
-
-    store
-        .answer("EXCAS foo 500 100", "*3\r\n+ERR update version is stale\r\n$3\r\n400\r\n:101\r\n");
-    assert_eq!(store.record(0), p6);
-
-    store.expect("EXSET bar x", 17, "-ERR table is full\r\n");
-    assert_eq!(store.record(0), p6);
-
-    store.expect(
-        "EXINCRBY foo 1 MIN 500 MAX 100",
-        11,
-        "-ERR min or max is specified, but not valid\r\n",
-    );
-    assert_eq!(store.record(0), p6);
-
-    store.answer("EXCAD foo 101", ":1\r\n");
-    assert_eq!(store.record(0), [0; 128]);
-
-    store.answer("EXSET foo x XX", "$-1\r\n");
-    assert_eq!(store.record(0), [0; 128]);
+    for (text, number, reply, after) in [
+        ("EXSET foo 100", 0, "+OK\r\n", foo(1, b"100")),
+        ("EXSET foo 200 VER 1", 0, "+OK\r\n", foo(2, b"200")),
+        ("EXSET foo 300 VER 1", 12, "-ERR update version is stale\r\n", foo(2, b"200")),
+        ("EXINCRBY foo 100", 0, ":300\r\n", foo(3, b"300")),
+        ("EXSETVER foo 100", 0, ":1\r\n", foo(100, b"300")),
+        ("EXCAS foo 400 100", 0, "*3\r\n+OK\r\n+\r\n:101\r\n", foo(101, b"400")),
+        ("EXCAS foo 500 100", 0, stale, foo(101, b"400")),
+        ("EXSET bar x", 17, "-ERR table is full\r\n", foo(101, b"400")),
+        ("EXINCRBY foo 1 MIN 500 MAX 100", 11, min_max, foo(101, b"400")),
+        ("EXCAD foo 101", 0, ":1\r\n", empty),
+        ("EXSET foo x XX", 0, "$-1\r\n", empty),
+    ] {
+        store.expect(text, number, reply);
+        assert_eq!(store.record(0), after, "{text}");
+    }
 }
 
 #[test]

@@ -68,29 +68,14 @@ fn an_empty_value_is_shown() {
 }
 
 #[test]
-fn nothing_is_shown_otherwise() {
-    let mut store = store();
-    for text in [
-        // another command
-        "EXSET foo x",
-        "EXGAE foo EX 5",
-        "EXSETVER foo 7",
-        "EXCAD foo 7",
-        "EXINCRBY first 1",
-        "EXAPPEND foo x",
-        "DEL foo",
-        "GET foo",
-        // a key not there
-        "EXGET other",
-        "EXCAS other x 1",
-        // a refusal
-        "EXGET",
-        "EXGET foo NOPE",
-        "EXCAS foo x",
-        "EXCAS foo x y",
-        "EXCAS foo x 7 EX 0",
-        "EXCAS foo x 7 EX",
-    ] {
+fn other_commands_absent_keys_and_refusals_show_nothing() {
+    let store = store();
+    let lines = [
+        "EXSET foo x", "EXGAE foo EX 5", "EXSETVER foo 7", "EXCAD foo 7", "EXINCRBY first 1",
+        "EXAPPEND foo x", "DEL foo", "GET foo", "EXGET other", "EXCAS other x 1", "EXGET",
+        "EXGET foo NOPE", "EXCAS foo x", "EXCAS foo x y", "EXCAS foo x 7 EX 0", "EXCAS foo x 7 EX",
+    ];
+    for text in lines {
         assert_eq!(shown(&store, text), None, "{text}");
     }
     assert_eq!(shown(&store, &format!("EXCAS foo {} 7", "x".repeat(65))), None);
@@ -99,21 +84,30 @@ fn nothing_is_shown_otherwise() {
     assert_eq!(current_value(&store.table, TOP_TIME + 1, &line("EXGET foo")), None);
     assert_eq!(current_value(&store.table[1..], 0, &line("EXGET foo")), None);
     assert_eq!(current_value(&[], 0, &line("EXGET foo")), None);
+}
 
-    // An expired record
+#[test]
+fn an_expired_record_shows_nothing() {
+    let mut store = store();
     store.answer("EXGAE foo PXAT 1000", "*3\r\n$3\r\nbar\r\n:7\r\n:0\r\n");
     assert_eq!(shown(&store, "EXGET foo"), None);
     assert_eq!(shown(&store, "EXCAS foo x 7"), None);
     store.time = 999;
     assert!(shown(&store, "EXGET foo").is_some());
+}
 
-    // 15
+#[test]
+fn at_the_top_version_only_what_succeeds_is_shown() {
+    let mut store = store();
     store.answer(&format!("EXSETVER foo {TOP_VERSION}"), ":1\r\n");
     assert_eq!(shown(&store, &format!("EXCAS foo x {TOP_VERSION}")), None);
     assert!(shown(&store, "EXCAS foo x 7").is_some());
     assert!(shown(&store, "EXGET foo").is_some());
+}
 
-    // A damaged record elsewhere
+#[test]
+fn a_damaged_record_elsewhere_shows_nothing() {
+    let mut store = store();
     store.table[2 * 128 + 5] = 1;
     assert_eq!(shown(&store, "EXGET foo"), None);
 }

@@ -153,25 +153,20 @@ fn ruling_6_nil_and_the_form_of_a_command() {
     store.answer("EXGET k", "$-1\r\n");
     store.answer("EXGAE k EX 1", "$-1\r\n");
     let forms: [&[u8]; 14] = [
-        b"",
-        b"*0\r\n",
-        b"*-1\r\n",
-        b"$-1\r\n",
-        b"*1\r\n$-1\r\n",
-        b"*2\r\n$5\r\nEXGET\r\n$-1\r\n",
-        b"*02\r\n$5\r\nEXGET\r\n$1\r\nk\r\n",
-        b"*2\r\n$05\r\nEXGET\r\n$1\r\nk\r\n",
-        b"*+2\r\n$5\r\nEXGET\r\n$1\r\nk\r\n",
-        b"*2\r\n$+5\r\nEXGET\r\n$1\r\nk\r\n",
-        b"*2\r\n$5\r\nEXGET\r\n$00\r\n\r\n",
-        b"*2\r\n$5\r\nEXGET\r\n$1\r\nk\r\n\r\n",
-        b"EXGET k\r\n",
-        b"*2\n$5\nEXGET\n$1\nk\n",
+        b"", b"*0\r\n", b"*-1\r\n", b"$-1\r\n", b"*1\r\n$-1\r\n", b"*2\r\n$5\r\nEXGET\r\n$-1\r\n",
+        b"*02\r\n$5\r\nEXGET\r\n$1\r\nk\r\n", b"*2\r\n$05\r\nEXGET\r\n$1\r\nk\r\n",
+        b"*+2\r\n$5\r\nEXGET\r\n$1\r\nk\r\n", b"*2\r\n$+5\r\nEXGET\r\n$1\r\nk\r\n",
+        b"*2\r\n$5\r\nEXGET\r\n$00\r\n\r\n", b"*2\r\n$5\r\nEXGET\r\n$1\r\nk\r\n\r\n",
+        b"EXGET k\r\n", b"*2\n$5\nEXGET\n$1\nk\n",
     ];
     for form in forms {
         assert_eq!(store.send(form), (4, vec![]), "{}", form.escape_ascii());
     }
+}
 
+#[test]
+fn ruling_6_sizes_and_odd_words() {
+    let mut store = Store::new(1);
     // 512 bytes are read, 513 are not.
     let long = |total: usize| {
         let bytes = command(&[b"EXGET", b"k", &vec![b'x'; total - 30]]);
@@ -202,15 +197,8 @@ fn ruling_6_nil_and_the_form_of_a_command() {
 fn ruling_7_stored_values_that_are_no_number() {
     let mut store = Store::new(1);
     for value in [
-        "-0",
-        "007",
-        "+5",
-        "9223372036854775808",
-        "-9223372036854775809",
-        "18446744073709551616",
-        "1x",
-        "x",
-        "-",
+        "-0", "007", "+5", "9223372036854775808", "-9223372036854775809", "18446744073709551616",
+        "1x", "x", "-",
     ] {
         store.answer(&format!("EXSET k {value}"), "+OK\r\n");
         store.refuse("EXINCRBY k 1", 13);
@@ -226,14 +214,9 @@ fn ruling_8_where_15_arises() {
     let mut store = Store::new(1);
     store.answer(&format!("EXSET k 5 ABS {TOP_VERSION}"), "+OK\r\n");
     let writes = [
-        "EXSET k 5",
-        "EXINCRBY k 1",
-        "EXAPPEND k x",
-        "EXPREPEND k x",
-        "EXCAS k 5 9223372036854775807",
-        "EXCAS k 5 9223372036854775807 KEEPTTL",
-        "EXSET k 5 VER 9223372036854775807",
-        "EXINCRBY k 1 VER 9223372036854775807",
+        "EXSET k 5", "EXINCRBY k 1", "EXAPPEND k x", "EXPREPEND k x",
+        "EXCAS k 5 9223372036854775807", "EXCAS k 5 9223372036854775807 KEEPTTL",
+        "EXSET k 5 VER 9223372036854775807", "EXINCRBY k 1 VER 9223372036854775807",
     ];
     for text in writes {
         store.refuse(text, 15);

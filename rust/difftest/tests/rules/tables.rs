@@ -93,7 +93,10 @@ fn limits_of_each_field() {
         record[2] = len;
         assert_eq!(number(&record), 1);
     }
-    // Every length, with its last byte and with one past it
+}
+
+#[test]
+fn every_length_with_its_last_byte_and_with_one_past_it() {
     for len in 1..=24u8 {
         let mut record = record(&[(0, &[1, len]), (24, &vec![0xaa; len.into()])]);
         assert_eq!(number(&record), 0);

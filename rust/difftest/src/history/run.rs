@@ -1,150 +1,15 @@
-//! Random histories of transactions on one record.
-//!
-//! A transaction reads the record with EXGET and may later send EXCAS with
-//! KEEPTTL, the version that it got and a value made from the one it read.
-//! Among these calls come commands on other keys and refused calls. The
-//! answers decide which transactions count: a serial execution of those
-//! answered OK, in the order of their EXCAS, must leave the same record.
+//! A history on its way: the calls, and the serial execution beside them.
 
+use super::update::Update;
+use super::Summary;
 use crate::commands::{self, Faults};
-use crate::layout::{self, Fields, Record, MAX_TIME, MAX_VALUE, MAX_VERSION};
+use crate::layout::{self, Fields, Record, MAX_TIME, MAX_VERSION};
 use crate::resp::{self, Reply};
 use crate::{tables, words, Answer, Rng};
 
-/// What the calls of a history came to.
-#[derive(Clone, Copy, Debug, Default, PartialEq, Eq)]
-pub struct Summary {
-    /// Transactions answered OK.
-    pub ok: usize,
-    /// Transactions answered stale.
-    pub stale: usize,
-    /// Transactions whose EXCAS was refused.
-    pub refused_writes: usize,
-    /// Transactions that sent no EXCAS.
-    pub reads_only: usize,
-    /// Commands on other keys that were answered.
-    pub others: usize,
-    /// Refused calls that belong to no transaction, commands on other keys
-    /// among them.
-    pub refused: usize,
-}
-
-impl Summary {
-    pub fn add(&mut self, other: &Summary) {
-        self.ok += other.ok;
-        self.stale += other.stale;
-        self.refused_writes += other.refused_writes;
-        self.reads_only += other.reads_only;
-        self.others += other.others;
-        self.refused += other.refused;
-    }
-}
-
-/// Runs one random history on a store. The error tells which rule a call or
-/// the end broke.
-pub fn check<S>(rng: &mut Rng, store: S) -> Result<Summary, String>
-where
-    S: FnMut(&mut [u8], u64, &[u8], &mut [u8]) -> Answer,
-{
-    let steps = plan(rng);
-    let transactions = steps.transactions;
-    let mut run = Run::new(rng, store, transactions);
-    for step in steps.list {
-        match step {
-            Step::Transaction(index) => match run.transactions[index].clone() {
-                State::NotBegun => run.read(rng, index)?,
-                State::HasRead(read) => run.write(rng, index, &read)?,
-                State::Done => {}
-            },
-            Step::Other => run.other_key(rng)?,
-            Step::Refused => run.refused_call(rng)?,
-        }
-        run.compare_record()?;
-    }
-    run.summary.reads_only =
-        run.transactions.iter().filter(|state| matches!(state, State::HasRead(_))).count();
-    Ok(run.summary)
-}
-
-/// A step of a history: the next call of a transaction, or a call of none.
-#[derive(Clone, Copy)]
-enum Step {
-    Transaction(usize),
-    Other,
-    Refused,
-}
-
-struct Plan {
-    list: Vec<Step>,
-    transactions: usize,
-}
-
-/// A random order of all steps. A transaction that stands twice in the list
-/// reads at the first place and writes at the second.
-fn plan(rng: &mut Rng) -> Plan {
-    let transactions = rng.between(1, 8);
-    let mut list = Vec::new();
-    for index in 0..transactions {
-        list.push(Step::Transaction(index));
-        if rng.chance(85) {
-            list.push(Step::Transaction(index));
-        }
-    }
-    list.extend(vec![Step::Other; rng.below(10)]);
-    list.extend(vec![Step::Refused; rng.below(6)]);
-    if rng.chance(70) {
-        rng.shuffle(&mut list);
-    } else {
-        // Nearly in order, so that more transactions are answered OK.
-        for _ in 0..list.len() / 2 {
-            let at = rng.below(list.len());
-            let beside = (at + 1) % list.len();
-            list.swap(at, beside);
-        }
-    }
-    Plan { list, transactions }
-}
-
-/// A way to make a new value from any value.
-#[derive(Clone, Debug)]
-enum Update {
-    Same,
-    Replace(Vec<u8>),
-    Append(Vec<u8>),
-    Reverse,
-    Half,
-    AddToEach(u8),
-}
-
-impl Update {
-    fn random(rng: &mut Rng) -> Update {
-        match rng.below(7) {
-            0 | 1 => Update::Same,
-            2 => Update::Replace(words::value(rng)),
-            3 => Update::Append(words::value(rng)),
-            4 => Update::Reverse,
-            5 => Update::Half,
-            _ => Update::AddToEach(rng.next_u64() as u8),
-        }
-    }
-
-    fn apply(&self, value: &[u8]) -> Vec<u8> {
-        let mut new: Vec<u8> = match self {
-            Update::Same => value.to_vec(),
-            Update::Replace(other) => other.clone(),
-            Update::Append(more) => [value, more].concat(),
-            Update::Reverse => value.iter().rev().copied().collect(),
-            Update::Half => value[..value.len() / 2].to_vec(),
-            Update::AddToEach(n) => value.iter().map(|byte| byte.wrapping_add(*n)).collect(),
-        };
-        new.truncate(MAX_VALUE);
-        new
-    }
-}
-
 /// What a transaction got from its EXGET.
 #[derive(Clone)]
-struct Read {
+pub struct Read {
     value: Vec<u8>,
     version: i64,
     update: Update,
@@ -153,22 +18,22 @@ struct Read {
 }
 
 #[derive(Clone)]
-enum State {
+pub enum State {
     NotBegun,
     HasRead(Read),
     Done,
 }
 
 /// A history on its way.
-struct Run<S> {
+pub struct Run<S> {
     store: S,
     table: Vec<u8>,
     slot: usize,
     key: Vec<u8>,
     /// The record by serial execution: only answers of OK change it.
     serial: Record,
-    transactions: Vec<State>,
-    summary: Summary,
+    pub transactions: Vec<State>,
+    pub summary: Summary,
 }
 
 impl<S> Run<S>
@@ -176,7 +41,7 @@ where
     S: FnMut(&mut [u8], u64, &[u8], &mut [u8]) -> Answer,
 {
     /// A table that holds the record in a random slot.
-    fn new(rng: &mut Rng, store: S, transactions: usize) -> Run<S> {
+    pub fn new(rng: &mut Rng, store: S, transactions: usize) -> Run<S> {
         let now = words::time(rng);
         let mut table = tables::good(rng, 6, now);
         let slot = rng.below(layout::records(&table).len());
@@ -220,7 +85,7 @@ where
     }
 
     /// The EXGET of a transaction.
-    fn read(&mut self, rng: &mut Rng, index: usize) -> Result<(), String> {
+    pub fn read(&mut self, rng: &mut Rng, index: usize) -> Result<(), String> {
         let time = self.live_time(rng);
         let mut words = vec![commands::any_case(rng, "EXGET"), self.key.clone()];
         if rng.chance(30) {
@@ -244,7 +109,7 @@ where
     }
 
     /// The EXCAS of a transaction, sometimes made to be refused.
-    fn write(&mut self, rng: &mut Rng, index: usize, read: &Read) -> Result<(), String> {
+    pub fn write(&mut self, rng: &mut Rng, index: usize, read: &Read) -> Result<(), String> {
         self.transactions[index] = State::Done;
         let words = [
             commands::any_case(rng, "EXCAS"),
@@ -254,14 +119,7 @@ where
             commands::any_case(rng, "KEEPTTL"),
         ];
         if rng.chance(10) {
-            let (time, room) = rng.pick(&[(MAX_TIME + 1, 128), (0, 127), (u64::MAX, 0)]);
-            let (number, _) = self.call(time, &words, room);
-            self.summary.refused_writes += 1;
-            return if number == 0 {
-                Err("an EXCAS out of range is answered".into())
-            } else {
-                Ok(())
-            };
+            return self.refused_write(rng, &words);
         }
         let time = self.live_time(rng);
         let (number, reply) = self.call(time, &words, 200);
@@ -269,28 +127,32 @@ where
             return Err(format!("EXCAS of a live record is refused by {number}"));
         }
         let stale_is_due = self.summary.ok != read.ok_before;
-        let items = array(&reply)?;
-        let stale = match items.first() {
-            Some(Reply::Simple(text)) if text == b"OK" => false,
-            Some(Reply::Simple(text)) if text == b"ERR update version is stale" => true,
-            _ => return Err(format!("EXCAS gives {items:?}")),
-        };
-        if stale != stale_is_due {
-            return Err(format!("EXCAS gives {items:?}, stale is due: {stale_is_due}"));
+        match (is_stale(&reply)?, stale_is_due) {
+            (true, true) => self.summary.stale += 1,
+            (false, false) => {
+                self.summary.ok += 1;
+                let value = read.update.apply(layout::value(&self.serial));
+                let version = layout::version(&self.serial) + 1;
+                layout::store(&mut self.serial, &value, version);
+            }
+            (stale, _) => return Err(format!("stale: {stale}, due: {stale_is_due}")),
         }
-        if stale {
-            self.summary.stale += 1;
-        } else {
-            self.summary.ok += 1;
-            let value = read.update.apply(layout::value(&self.serial));
-            let version = layout::version(&self.serial) + 1;
-            layout::store(&mut self.serial, &value, version);
+        Ok(())
+    }
+
+    /// The EXCAS of a transaction, at a time or with a buffer that is refused.
+    fn refused_write(&mut self, rng: &mut Rng, words: &[Vec<u8>]) -> Result<(), String> {
+        let (time, room) = rng.pick(&[(MAX_TIME + 1, 128), (0, 127), (u64::MAX, 0)]);
+        let (number, _) = self.call(time, words, room);
+        self.summary.refused_writes += 1;
+        if number == 0 {
+            return Err("an EXCAS out of range is answered".into());
         }
         Ok(())
     }
 
     /// Any command on any other key.
-    fn other_key(&mut self, rng: &mut Rng) -> Result<(), String> {
+    pub fn other_key(&mut self, rng: &mut Rng) -> Result<(), String> {
         let time = self.live_time(rng);
         let faults = if rng.chance(20) { Faults::random(rng) } else { Faults::NONE };
         let words = loop {
@@ -308,7 +170,7 @@ where
     }
 
     /// A call that must be refused, at any time, often on the record's key.
-    fn refused_call(&mut self, rng: &mut Rng) -> Result<(), String> {
+    pub fn refused_call(&mut self, rng: &mut Rng) -> Result<(), String> {
         let words = self.refused_words(rng);
         let mut command = resp::encode(&words);
         let mut time = self.live_time(rng);
@@ -359,7 +221,7 @@ where
     }
 
     /// The record must be that of the serial execution after every call.
-    fn compare_record(&self) -> Result<(), String> {
+    pub fn compare_record(&self) -> Result<(), String> {
         let record = layout::records(&self.table)[self.slot];
         if record == self.serial {
             return Ok(());
@@ -372,6 +234,16 @@ where
 /// time in range: the longer ones are.
 fn refused_by_itself(words: &[Vec<u8>]) -> bool {
     words.len() > 3
+}
+
+/// Whether an EXCAS was answered stale; otherwise it must be OK.
+fn is_stale(reply: &[u8]) -> Result<bool, String> {
+    let items = array(reply)?;
+    match items.first() {
+        Some(Reply::Simple(text)) if text == b"OK" => Ok(false),
+        Some(Reply::Simple(text)) if text == b"ERR update version is stale" => Ok(true),
+        _ => Err(format!("EXCAS gives {items:?}")),
+    }
 }
 
 /// The items of a reply that is one array and nothing more.
