@@ -2,7 +2,8 @@
 //! the machine slows all of them.
 
 use crate::contenders::{Call, CONTENDERS};
-use crate::rows::{Row, RECORD, TIME};
+use crate::rows::{Row, TIME};
+use difftest::layout::{records, records_mut};
 use std::hint::black_box;
 use std::time::Instant;
 
@@ -50,8 +51,7 @@ fn time(call: Call, row: &mut Row, whole: &[u8], passes: usize) -> f64 {
     for _ in 0..passes {
         for (command, slot) in &row.commands {
             black_box(call(&mut row.table, TIME, black_box(command), &mut reply));
-            let (records, _) = row.table.as_chunks_mut::<RECORD>();
-            records[*slot] = whole.as_chunks::<RECORD>().0[*slot];
+            records_mut(&mut row.table)[*slot] = records(whole)[*slot];
         }
     }
     start.elapsed().as_nanos() as f64 / (passes * row.commands.len()) as f64

@@ -1,12 +1,11 @@
 //! The rows: for each a table and commands that all take the same path.
 
 use crate::keys::Key;
+use difftest::layout::{Fields, Record, RECORD};
+use difftest::resp::encode;
 
 /// The time of every call.
 pub const TIME: u64 = 1_700_000_000_000;
-
-/// The bytes of a record.
-pub const RECORD: usize = 128;
 
 /// The numbers of records.
 pub const SIZES: [usize; 5] = [1, 16, 64, 200, 256];
@@ -66,16 +65,10 @@ fn version(slot: usize) -> usize {
 }
 
 /// A live record; every fourth has an expiry.
-fn record(key: &str, value: &str, slot: usize) -> [u8; RECORD] {
-    let mut record = [0; RECORD];
-    record[..5].copy_from_slice(&[1, key.len() as u8, value.len() as u8, 0, 7]);
-    record[8..16].copy_from_slice(&version(slot).to_le_bytes());
-    if slot % 4 == 1 {
-        record[16..24].copy_from_slice(&(TIME + 1_000_000).to_le_bytes());
-    }
-    record[24..][..key.len()].copy_from_slice(key.as_bytes());
-    record[48..][..value.len()].copy_from_slice(value.as_bytes());
-    record
+fn record(key: &str, value: &str, slot: usize) -> Record {
+    let expiry = if slot % 4 == 1 { TIME + 1_000_000 } else { 0 };
+    let version = version(slot) as u64;
+    Fields { key: key.into(), value: value.into(), flags: 7, version, expiry }.record()
 }
 
 /// The command at this place of a row's list, and the slot that it may change.
@@ -87,21 +80,15 @@ fn command(name: &str, records: usize, key: Key, at: usize) -> (Vec<u8>, usize) 
     let before = &(version(slot) - 1).to_string();
     let text = "v=3.1;t=20;s=ok";
     let bytes = match name {
-        "EXGET miss" => resp(&["EXGET", elsewhere]),
-        "EXSET live" => resp(&["EXSET", there, text]),
-        "EXSET new" => return (resp(&["EXSET", elsewhere, text, "EX", "3600"]), records - 1),
-        "EXCAS OK" => resp(&["EXCAS", there, text, now, "KEEPTTL"]),
-        "EXCAS stale" => resp(&["EXCAS", there, text, before, "KEEPTTL"]),
-        "EXINCRBY" => resp(&["EXINCRBY", there, "5", "MIN", "0", "MAX", "5000"]),
-        "EXAPPEND" => resp(&["EXAPPEND", there, ";x=1"]),
-        "malformed" => [resp(&["EXGET", there]), b"\n".to_vec()].concat(),
-        _ => resp(&["EXGET", there]),
+        "EXGET miss" => encode(&["EXGET", elsewhere]),
+        "EXSET live" => encode(&["EXSET", there, text]),
+        "EXSET new" => return (encode(&["EXSET", elsewhere, text, "EX", "3600"]), records - 1),
+        "EXCAS OK" => encode(&["EXCAS", there, text, now, "KEEPTTL"]),
+        "EXCAS stale" => encode(&["EXCAS", there, text, before, "KEEPTTL"]),
+        "EXINCRBY" => encode(&["EXINCRBY", there, "5", "MIN", "0", "MAX", "5000"]),
+        "EXAPPEND" => encode(&["EXAPPEND", there, ";x=1"]),
+        "malformed" => [encode(&["EXGET", there]), b"\n".to_vec()].concat(),
+        _ => encode(&["EXGET", there]),
     };
     (bytes, slot)
-}
-
-fn resp(words: &[&str]) -> Vec<u8> {
-    let bulk = |word: &&str| format!("${}\r\n{word}\r\n", word.len());
-    let bulks: String = words.iter().map(bulk).collect();
-    format!("*{}\r\n{bulks}", words.len()).into_bytes()
 }

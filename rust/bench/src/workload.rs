@@ -1,10 +1,11 @@
-//! A fixed workload for `bench/instructions`: every row once on the library,
-//! once on the reference. It prints a line before each, in the order in which
-//! `row_done` is called.
+//! A fixed workload for the script `bench/instructions`: each row on the
+//! library, then on the reference, with a call of `row_done` after each. It
+//! prints the rows in that order, with their numbers of calls.
 
 use bench::contenders::{library, reference, Call};
 use bench::keys::KINDS;
-use bench::rows::{self, Row, RECORD, TIME};
+use bench::rows::{self, Row, TIME};
+use difftest::layout::{records, records_mut};
 use std::hint::black_box;
 
 fn main() {
@@ -22,8 +23,7 @@ fn run(call: Call, row: &mut Row, whole: &[u8]) {
     let mut reply = [0; 128];
     for (command, slot) in &row.commands {
         black_box(call(&mut row.table, TIME, command, &mut reply));
-        let part = RECORD * slot..RECORD * (slot + 1);
-        row.table[part.clone()].copy_from_slice(&whole[part]);
+        records_mut(&mut row.table)[*slot] = records(whole)[*slot];
     }
 }
 

@@ -1,10 +1,10 @@
 //! RESP2, told the plain way: commands encoded and decoded, replies decoded.
 
 /// The words as an array of bulk strings.
-pub fn encode(words: &[Vec<u8>]) -> Vec<u8> {
+pub fn encode(words: &[impl AsRef<[u8]>]) -> Vec<u8> {
     let mut bytes = format!("*{}\r\n", words.len()).into_bytes();
     for word in words {
-        bytes.extend(encode_word(word));
+        bytes.extend(encode_word(word.as_ref()));
     }
     bytes
 }

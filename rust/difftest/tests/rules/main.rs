@@ -9,6 +9,7 @@ mod sessions;
 mod tables;
 
 use difftest::expect::ERRORS;
+use difftest::resp::encode;
 use difftest::{Answer, Case};
 
 /// 2^62, the latest time and expiry.
@@ -27,21 +28,14 @@ fn call(table: &mut [u8], time: u64, command: &[u8], reply: &mut [u8]) -> Answer
     outcome.answer
 }
 
-/// The words as a RESP2 array of bulk strings.
+/// The words as a command.
 fn command(words: &[&[u8]]) -> Vec<u8> {
-    let mut bytes = format!("*{}\r\n", words.len()).into_bytes();
-    for word in words {
-        bytes.extend(format!("${}\r\n", word.len()).bytes());
-        bytes.extend(*word);
-        bytes.extend(b"\r\n");
-    }
-    bytes
+    encode(words)
 }
 
 /// The words of a line, as a command.
 fn line(text: &str) -> Vec<u8> {
-    let words: Vec<&[u8]> = text.split_whitespace().map(str::as_bytes).collect();
-    command(&words)
+    encode(&text.split_whitespace().collect::<Vec<_>>())
 }
 
 /// A record with these bytes at these places and zeros elsewhere.

@@ -4,6 +4,7 @@
 //! prompts are shortened, their notes and trailing blanks left out.
 
 use super::*;
+use difftest::resp::{decode_reply, Reply};
 
 /// Runs a session: lines after `> ` are sent, the lines up to the next are
 /// the reply.
@@ -25,38 +26,28 @@ fn run(session: &str) {
 
 /// A reply as redis-cli prints it, without trailing blanks.
 fn printed(reply: &[u8]) -> String {
-    let text = std::str::from_utf8(reply).unwrap();
-    let mut lines: Vec<String> = Vec::new();
-    let rest = if let Some(items) = text.strip_prefix('*') {
-        let (count, mut rest) = items.split_once("\r\n").unwrap();
-        for index in 1..=count.parse::<usize>().unwrap() {
-            let (item, after) = printed_item(rest);
-            lines.push(format!("{index}) {item}").trim_end().to_string());
-            rest = after;
-        }
-        rest
-    } else {
-        let (item, rest) = printed_item(text);
-        lines.push(item);
-        rest
+    let Some((reply, [])) = decode_reply(reply) else {
+        panic!("not one reply: {}", reply.escape_ascii());
     };
-    assert_eq!(rest, "", "nothing follows the reply");
-    lines.join("\n")
+    match &reply {
+        Reply::Array(items) => {
+            let line = |(at, item)| format!("{}) {}", at + 1, printed_item(item));
+            let lines = items.iter().enumerate().map(line);
+            lines.map(|line| line.trim_end().to_string()).collect::<Vec<_>>().join("\n")
+        }
+        item => printed_item(item),
+    }
 }
 
-/// One reply that is no array, and what follows it.
-fn printed_item(text: &str) -> (String, &str) {
-    let (head, rest) = text.split_once("\r\n").unwrap();
-    match head.split_at(1) {
-        ("+", simple) => (simple.to_string(), rest),
-        ("-", error) => (format!("(error) {error}"), rest),
-        (":", number) => (format!("(integer) {number}"), rest),
-        ("$", "-1") => ("(nil)".to_string(), rest),
-        ("$", len) => {
-            let (bulk, rest) = rest.split_at(len.parse().unwrap());
-            (format!("\"{bulk}\""), rest.strip_prefix("\r\n").unwrap())
-        }
-        _ => panic!("no RESP2 reply: {text:?}"),
+/// One reply that is no array.
+fn printed_item(item: &Reply) -> String {
+    match item {
+        Reply::Simple(text) => text.escape_ascii().to_string(),
+        Reply::Error(text) => format!("(error) {}", text.escape_ascii()),
+        Reply::Integer(number) => format!("(integer) {number}"),
+        Reply::Nil => "(nil)".to_string(),
+        Reply::Bulk(bytes) => format!("\"{}\"", bytes.escape_ascii()),
+        Reply::Array(_) => panic!("an array in an array"),
     }
 }
 
