@@ -1,6 +1,12 @@
 //! What a test run takes from its environment.
 
 use std::env;
+use std::io::Write;
+
+/// Tells what a test runs, past the harness, which keeps back what a test that passes prints.
+pub fn announce(text: &str) {
+    let _ = writeln!(std::io::stderr(), "{text}");
+}
 
 /// The seed: PIETRUNEL_SEED, or else always the same.
 pub fn seed() -> u64 {

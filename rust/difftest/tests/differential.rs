@@ -16,7 +16,7 @@ const FORMS: [&str; 25] = [
 #[test]
 fn the_library_agrees_with_the_reference() {
     let (seed, calls) = (settings::seed(), settings::calls());
-    println!("seed {seed}, {calls} calls");
+    settings::announce(&format!("comparing {calls} random calls, seed {seed}"));
     let mut rng = Rng::new(seed);
     let mut numbers = [0; 18];
     let mut forms = BTreeMap::new();

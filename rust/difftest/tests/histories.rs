@@ -9,7 +9,7 @@ use reference::call;
 #[test]
 fn the_library_runs_transactions_as_if_one_at_a_time() {
     let (seed, histories) = (settings::seed(), settings::histories());
-    println!("seed {seed}, {histories} histories");
+    settings::announce(&format!("checking {histories} random histories, seed {seed}"));
     let mut total = Summary::default();
     for history in 0..histories {
         // Each has a seed of its own, so that one can be run again alone.
