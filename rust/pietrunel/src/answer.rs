@@ -100,15 +100,17 @@ impl Rejection {
 impl<'r> Answer<'r> {
     pub(crate) fn new(number: u32, reply: &'r [u8]) -> Answer<'r> {
         let error = number.checked_sub(FIRST_ERROR).and_then(|at| ERRORS.get(at as usize));
-        match (number, error) {
-            (0, _) => Answer::Reply(reply),
-            (_, Some(error)) => Answer::Error(*error, reply),
-            (1, _) => Answer::Rejected(Rejection::DamagedTable),
-            (2, _) => Answer::Rejected(Rejection::TimeOutOfRange),
-            (3, _) => Answer::Rejected(Rejection::ShortReplyBuffer),
-            (4, _) => Answer::Rejected(Rejection::MalformedCommand),
-            _ => Answer::Rejected(Rejection::Other(number)),
-        }
+        let rejection = match (number, error) {
+            (0, _) => return Answer::Reply(reply),
+            (_, Some(error)) => return Answer::Error(*error, reply),
+            (1, _) => Rejection::DamagedTable,
+            (2, _) => Rejection::TimeOutOfRange,
+            (3, _) => Rejection::ShortReplyBuffer,
+            (4, _) => Rejection::MalformedCommand,
+            _ => Rejection::Other(number),
+        };
+        assert!(reply.is_empty(), "the library gives no reply with number {number}");
+        Answer::Rejected(rejection)
     }
 
     /// The number that the library gave back: 0, or that of the refusal.
@@ -136,10 +138,11 @@ mod tests {
     #[test]
     fn every_number_comes_back() {
         for number in 0..30 {
-            let answer = Answer::new(number, b"r");
-            assert_eq!(answer.number(), number);
+            let reply: &[u8] = if number == 0 || (5..=17).contains(&number) { b"r" } else { b"" };
+            let answer = Answer::new(number, reply);
+            assert_eq!((answer.number(), answer.reply()), (number, reply));
             assert_eq!(matches!(answer, Answer::Error(..)), (5..=17).contains(&number));
-            assert_eq!(answer.reply().is_empty(), matches!(answer, Answer::Rejected(_)));
+            assert_eq!(matches!(answer, Answer::Rejected(_)), reply.is_empty());
         }
     }
 }

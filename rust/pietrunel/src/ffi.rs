@@ -26,7 +26,8 @@ extern "C" {
 }
 
 /// Where a current value stands: in the command, or else in the table.
-#[derive(Default)]
+#[cfg_attr(not(has_current_value), allow(dead_code))]
+#[derive(Debug, PartialEq)]
 pub struct Shown {
     pub in_command: bool,
     pub start: usize,
@@ -35,7 +36,8 @@ pub struct Shown {
 
 /// The number and the reply's length.
 pub fn call(table: &mut [u8], time_ms: u64, command: &[u8], reply: &mut [u8]) -> (u32, usize) {
-    let mut len = 0;
+    // No length, so that it shows if the library did not write it.
+    let mut len = usize::MAX;
     // SAFETY: each pointer comes from a slice with the length beside it, or from `len`, and the
     // mutable ones are borrowed alone. The library is proved to read and write only there; it
     // keeps no pointer.
@@ -57,7 +59,7 @@ pub fn call(table: &mut [u8], time_ms: u64, command: &[u8], reply: &mut [u8]) ->
 /// Where the current value stands, if one is shown.
 #[cfg(has_current_value)]
 pub fn current_value(table: &[u8], time_ms: u64, command: &[u8]) -> Option<Shown> {
-    let mut shown = Shown::default();
+    let mut shown = Shown { in_command: true, start: usize::MAX, len: usize::MAX };
     // SAFETY: each pointer comes from a slice with the length beside it, which is only read, or
     // from a field of `shown`. The library keeps no pointer; a `bool` of C is one of Rust.
     let any = unsafe {
@@ -72,7 +74,11 @@ pub fn current_value(table: &[u8], time_ms: u64, command: &[u8]) -> Option<Shown
             &mut shown.len,
         )
     };
-    any.then_some(shown)
+    if any {
+        return Some(shown);
+    }
+    assert_eq!(shown, Shown { in_command: false, start: 0, len: 0 }, "nothing is shown");
+    None
 }
 
 // NOT YET: stands in until every libpietrunel.a has the function.
