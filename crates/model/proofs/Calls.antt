@@ -111,6 +111,12 @@ module _ (f : Form) (w : Roomy f) (t : List ℕ) (now : ℕ) (c b : List ℕ) wh
       (λ n l h. absurd (omega arith)) (λ r f h. absurd (omega arith))
       λ ss g ws e j s r h hr e2. absurd (omega arith)
 
+  -- numbers 5 to 17 write their error reply and nothing else
+  pub call-error : Late (call f t now c b .number) → call f t now c b ≡ replied (call f t now c b .number) (errorReply (call f t now c b .number)) t b
+  call-error =
+      call-cases f t now c b (λ o. Late (o .number) → o ≡ replied (o .number) (errorReply (o .number)) t b) (λ n e h. absurd (omega arith)) w (λ n l h. refl)
+      (λ r f h. absurd (omega arith)) λ ss g ws e j s r h hr l. absurd (omega arith)
+
   -- no number is above 17
   pub call-number : call f t now c b .number ≤ 17
   call-number =

@@ -52,10 +52,6 @@ impl Case {
     /// Where the current value stands by both stores, or how they differ.
     pub fn compare_current_value(&self) -> Result<Option<Shown>, String> {
         let shown = reference::current_value(&self.table, self.time, &self.command);
-        // NOT YET: the test goes once every libpietrunel.a has the function.
-        if !pietrunel::HAS_CURRENT_VALUE {
-            return Ok(shown);
-        }
         let library = library_current_value(&self.table, self.time, &self.command);
         if library == shown {
             return Ok(shown);

@@ -12,7 +12,6 @@ extern "C" {
         reply_len: *mut usize,
     ) -> u32;
 
-    #[cfg(has_current_value)]
     fn pietrunel_current_value(
         table: *const u8,
         table_len: usize,
@@ -26,7 +25,6 @@ extern "C" {
 }
 
 /// Where a current value stands: in the command, or else in the table.
-#[cfg_attr(not(has_current_value), allow(dead_code))]
 #[derive(Debug, PartialEq)]
 pub struct Shown {
     pub in_command: bool,
@@ -57,7 +55,6 @@ pub fn call(table: &mut [u8], time_ms: u64, command: &[u8], reply: &mut [u8]) ->
 }
 
 /// Where the current value stands, if one is shown.
-#[cfg(has_current_value)]
 pub fn current_value(table: &[u8], time_ms: u64, command: &[u8]) -> Option<Shown> {
     let mut shown = Shown { in_command: true, start: usize::MAX, len: usize::MAX };
     // SAFETY: each pointer comes from a slice with the length beside it, which is only read, or
@@ -79,10 +76,4 @@ pub fn current_value(table: &[u8], time_ms: u64, command: &[u8]) -> Option<Shown
     }
     assert_eq!(shown, Shown { in_command: false, start: 0, len: 0 }, "nothing is shown");
     None
-}
-
-// NOT YET: stands in until every libpietrunel.a has the function.
-#[cfg(not(has_current_value))]
-pub fn current_value(_: &[u8], _: u64, _: &[u8]) -> Option<Shown> {
-    unimplemented!("this libpietrunel.a does not export pietrunel_current_value")
 }

@@ -48,7 +48,3 @@ pub fn current_value<'a>(table: &'a [u8], time_ms: u64, command: &'a [u8]) -> Op
     let whole = if shown.in_command { command } else { table };
     Some(&whole[shown.start..shown.start + shown.len])
 }
-
-// NOT YET: goes once every libpietrunel.a exports pietrunel_current_value; until then
-// `current_value` must not be called where this is false.
-pub const HAS_CURRENT_VALUE: bool = cfg!(has_current_value);
