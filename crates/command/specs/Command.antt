@@ -63,10 +63,11 @@ endOf End.Back = model.back
 endOf End.Front = model.front
 
 abbrev pub actionOf : List ℕ → (key : List ℕ) → Action → model.Command
-actionOf s k (Action.Set v p c e g w) = model.exset k (bytesOf s v) (presenceOf p) (changeOf c) (expireOf e) g w
+actionOf s k (Action.Set a) = model.exset k (bytesOf s (a .value)) (presenceOf (a .presence)) (changeOf (a .change)) (expireOf (a .expire)) (a .flags) (a .withversion)
 actionOf s k (Action.Get w) = model.exget k w
 actionOf s k (Action.SetVersion n) = model.exsetver k n
-actionOf s k (Action.Increment z p c e min max nn w) = model.exincrby k z (presenceOf p) (changeOf c) (expireOf e) (boundOf min) (boundOf max) nn w
+actionOf s k (Action.Increment a) =
+    model.exincrby k (a .by) (presenceOf (a .presence)) (changeOf (a .change)) (expireOf (a .expire)) (boundOf (a .min)) (boundOf (a .max)) (a .nonnegative) (a .withversion)
 actionOf s k (Action.Swap v n e) = model.excas k (bytesOf s v) n (expireOf e)
 actionOf s k (Action.Remove n) = model.excad k n
 actionOf s k (Action.Join e v p c) = model.exjoin (endOf e) k (bytesOf s v) (presenceOf p) (changeOf c)
@@ -110,11 +111,21 @@ endFrom model.front = End.Front
 
 -- the value of a command is word 2
 abbrev pub actionFrom : List (List ℕ) → model.Command → Action
-actionFrom ws (model.exset k v p c e g w) = Action.Set (spanAt 2 ws) (presenceFrom p) (changeFrom c) (expireFrom e) g w
+actionFrom ws (model.exset k v p c e g w) =
+    Action.Set (record { value = spanAt 2 ws; presence = presenceFrom p; change = changeFrom c; expire = expireFrom e; flags = g; withversion = w })
 actionFrom ws (model.exget k w) = Action.Get w
 actionFrom ws (model.exsetver k n) = Action.SetVersion n
 actionFrom ws (model.exincrby k z p c e min max nn w) =
-    Action.Increment z (presenceFrom p) (changeFrom c) (expireFrom e) (boundFrom min) (boundFrom max) nn w
+    Action.Increment (record {
+      by = z;
+      presence = presenceFrom p;
+      change = changeFrom c;
+      expire = expireFrom e;
+      min = boundFrom min;
+      max = boundFrom max;
+      nonnegative = nn;
+      withversion = w;
+    })
 actionFrom ws (model.excas k v n e) = Action.Swap (spanAt 2 ws) n (expireFrom e)
 actionFrom ws (model.excad k n) = Action.Remove n
 actionFrom ws (model.exjoin e k v p c) = Action.Join (endFrom e) (spanAt 2 ws) (presenceFrom p) (changeFrom c)

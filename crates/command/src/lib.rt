@@ -43,17 +43,32 @@ pub enum End {
     Front,
 }
 
+// What EXSET stores and answers.
+pub struct Set {
+    pub value: Span,
+    pub presence: Presence,
+    pub change: Change,
+    pub expire: Expire,
+    pub flags: u32,
+    pub withversion: bool,
+}
+
+// What EXINCRBY adds, within which bounds, and answers.
+pub struct Increment {
+    pub by: i64,
+    pub presence: Presence,
+    pub change: Change,
+    pub expire: Expire,
+    pub min: Bound,
+    pub max: Bound,
+    pub nonnegative: bool,
+    pub withversion: bool,
+}
+
 // What is to be done at the key.
 pub enum Action {
     // EXSET
-    Set {
-        value: Span,
-        presence: Presence,
-        change: Change,
-        expire: Expire,
-        flags: u32,
-        with_version: bool,
-    },
+    Set(Set),
     // EXGET
     Get {
         with_flags: bool,
@@ -63,16 +78,7 @@ pub enum Action {
         version: u64,
     },
     // EXINCRBY
-    Increment {
-        by: i64,
-        presence: Presence,
-        change: Change,
-        expire: Expire,
-        min: Bound,
-        max: Bound,
-        non_negative: bool,
-        with_version: bool,
-    },
+    Increment(Increment),
     // EXCAS
     Swap {
         value: Span,

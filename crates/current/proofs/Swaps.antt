@@ -31,9 +31,9 @@ module _ (t : List ℕ) (i : ℕ) (v : Span) (n m : ℕ) (stored : m ≡ recordI
 pub others-show-none : (t : List ℕ) (i : ℕ) (a : Action) → OneOf (0 ∷ 2 ∷ 3 ∷ 5 ∷ 6 ∷ 7 ∷ 8 ∷ []) (tagOf Rattle.command.proofs.Action.the-type a) → shownAt t i a ≡ Shown.Nothing
 others-show-none t i (Action.Get w) h = absurd (miss (0 ∷ 2 ∷ 3 ∷ 5 ∷ 6 ∷ 7 ∷ 8 ∷ []) 1 tt h)
 others-show-none t i (Action.Swap v n e) h = absurd (miss (0 ∷ 2 ∷ 3 ∷ 5 ∷ 6 ∷ 7 ∷ 8 ∷ []) 4 tt h)
-others-show-none t i (Action.Set v p c e g w) h = refl
+others-show-none t i (Action.Set a) h = refl
 others-show-none t i (Action.SetVersion n) h = refl
-others-show-none t i (Action.Increment z p c e min max nn w) h = refl
+others-show-none t i (Action.Increment a) h = refl
 others-show-none t i (Action.Remove n) h = refl
 others-show-none t i (Action.Join e v p c) h = refl
 others-show-none t i (Action.Touch x) h = refl

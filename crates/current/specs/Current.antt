@@ -37,9 +37,9 @@ swappedFrom t i v n =
 abbrev pub shownAt : List ℕ → ℕ → Action → Shown
 shownAt t i (Action.Get w) = valueFrom t i
 shownAt t i (Action.Swap v n e) = swappedFrom t i v n
-shownAt t i (Action.Set v p c e g w) = Shown.Nothing
+shownAt t i (Action.Set a) = Shown.Nothing
 shownAt t i (Action.SetVersion n) = Shown.Nothing
-shownAt t i (Action.Increment z p c e min max nn w) = Shown.Nothing
+shownAt t i (Action.Increment a) = Shown.Nothing
 shownAt t i (Action.Remove n) = Shown.Nothing
 shownAt t i (Action.Join e v p c) = Shown.Nothing
 shownAt t i (Action.Touch x) = Shown.Nothing
@@ -54,9 +54,9 @@ shownOf t (Found.At i) a = shownAt t i a
 abbrev pub Ordered : Action → Type 0
 Ordered (Action.Get w) = Unit {0}
 Ordered (Action.Swap v n e) = v .start ≤ v .end
-Ordered (Action.Set v p c e g w) = Unit {0}
+Ordered (Action.Set a) = Unit {0}
 Ordered (Action.SetVersion n) = Unit {0}
-Ordered (Action.Increment z p c e min max nn w) = Unit {0}
+Ordered (Action.Increment a) = Unit {0}
 Ordered (Action.Remove n) = Unit {0}
 Ordered (Action.Join e v p c) = Unit {0}
 Ordered (Action.Touch x) = Unit {0}

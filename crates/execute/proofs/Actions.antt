@@ -4,11 +4,10 @@ use mathlib.Core.Bool.{Bool}
 use mathlib.Core.List.{List}
 use mathlib.Core.Option.{Option}
 use Prim.Native.Nat.{ℕ}
-use lib.IntN.{ℤ}
 use Rattle.model.specs.Checked.{Checked}
 use Rattle.model.specs.Table as model
 use Rattle.model.specs.Table.{form128, Slot, findLive}
-use Rattle.model.specs.Command.{Command, exset, exincrby, excas, exjoin}
+use Rattle.model.specs.Command.{Command, exset, excas, exjoin}
 use Rattle.model.specs.Execute.{Effect, executeOn, keyOf, execute}
 use Rattle.model.specs.Call.{Outcome, effectOn}
 use Rattle.table.specs.Slots.{slotsOf}
@@ -17,19 +16,19 @@ use Rattle.command.specs.declared.Span.{Span}
 use Rattle.command.specs.declared.Presence.{Presence}
 use Rattle.command.specs.declared.Change.{Change}
 use Rattle.command.specs.declared.Expire.{Expire}
-use Rattle.command.specs.declared.Bound.{Bound}
 use Rattle.command.specs.declared.End.{End}
+use Rattle.command.specs.declared.Set.{Set}
 use Rattle.command.specs.declared.Action.{Action}
 use Rattle.command.specs.declared.Action.the-variants as Action
 use Rattle.command.specs.declared.Request.{Request}
-use Rattle.command.specs.Command.{bytesOf, presenceOf, changeOf, expireOf, boundOf, endOf, actionOf, commandOf}
+use Rattle.command.specs.Command.{bytesOf, presenceOf, changeOf, expireOf, endOf, actionOf, commandOf}
 use Rattle.live.specs.Live.{liveOf}
 
 key-of : (s k : List ℕ) (a : Action) → keyOf (actionOf s k a) ≡ k
-key-of s k (Action.Set v p c e g w) = refl
+key-of s k (Action.Set a) = refl
 key-of s k (Action.Get w) = refl
 key-of s k (Action.SetVersion n) = refl
-key-of s k (Action.Increment z p c e min max nn w) = refl
+key-of s k (Action.Increment a) = refl
 key-of s k (Action.Swap v n e) = refl
 key-of s k (Action.Remove n) = refl
 key-of s k (Action.Join e v p c) = refl
@@ -53,21 +52,14 @@ module _ (t b s : List ℕ) (time : ℕ) (k x : List ℕ) (o : Option model.Foun
   abbrev Effected : Command → Type 0
   Effected c = out ≡ effectOn form128 t b (slotsOf t) (executeOn form128 time (slotsOf t) o c)
 
-  pub set-text : (p : Presence) (c : Change) (e : Expire) (g : ℕ) (w : Bool) → Effected (exset k x (presenceOf p) (changeOf c) (expireOf e) g w)
-      → Effected (actionOf s k (Action.Set v p c e g w))
-  set-text p c e g w h = subst (λ (y : List ℕ). Effected (exset k y (presenceOf p) (changeOf c) (expireOf e) g w)) text h
+  pub set-text : (a : Set) → a .value ≡ v → Effected (exset k x (presenceOf (a .presence)) (changeOf (a .change)) (expireOf (a .expire)) (a .flags) (a .withversion))
+      → Effected (actionOf s k (Action.Set a))
+  set-text a e h =
+      subst (λ (y : List ℕ). Effected (exset k y (presenceOf (a .presence)) (changeOf (a .change)) (expireOf (a .expire)) (a .flags) (a .withversion)))
+      (text ∙ ap (bytesOf s) (sym e)) h
 
   pub swap-text : (n : ℕ) (e : Expire) → Effected (excas k x n (expireOf e)) → Effected (actionOf s k (Action.Swap v n e))
   swap-text n e h = subst (λ (y : List ℕ). Effected (excas k y n (expireOf e))) text h
 
   pub join-text : (e : End) (p : Presence) (c : Change) → Effected (exjoin (endOf e) k x (presenceOf p) (changeOf c)) → Effected (actionOf s k (Action.Join e v p c))
   join-text e p c h = subst (λ (y : List ℕ). Effected (exjoin (endOf e) k y (presenceOf p) (changeOf c))) text h
-
--- a number that was passed on as 64 bits is that number
-pub number-back : (t b s : List ℕ) (time : ℕ) (k : List ℕ) (o : Option model.Found) (y z : ℤ) → y ≡ z → (out : Outcome)
-    → (p : Presence) (c : Change) (e : Expire) (min max : Bound) (nn w : Bool)
-    → out ≡ effectOn form128 t b (slotsOf t) (executeOn form128 time (slotsOf t) o (exincrby k y (presenceOf p) (changeOf c) (expireOf e) (boundOf min) (boundOf max) nn w))
-    → out ≡ effectOn form128 t b (slotsOf t) (executeOn form128 time (slotsOf t) o (actionOf s k (Action.Increment z p c e min max nn w)))
-number-back t b s time k o y z same out p c e min max nn w h =
-    subst (λ (x : ℤ). out ≡ effectOn form128 t b (slotsOf t) (executeOn form128 time (slotsOf t) o
-    (exincrby k x (presenceOf p) (changeOf c) (expireOf e) (boundOf min) (boundOf max) nn w))) same h

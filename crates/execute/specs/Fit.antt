@@ -15,10 +15,10 @@ use Rattle.access.specs.Gives.{Held}
 
 -- a value fits a record, and a version that is set is in range
 abbrev pub ActionOk : List ℕ → Action → Type 0
-ActionOk s (Action.Set v p c e g w) = Within s 64 v × ChangeOk (changeOf c)
+ActionOk s (Action.Set a) = Within s 64 (a .value) × ChangeOk (changeOf (a .change))
 ActionOk s (Action.Get w) = Unit {0}
 ActionOk s (Action.SetVersion n) = Unit {0}
-ActionOk s (Action.Increment z p c e min max nn w) = ChangeOk (changeOf c)
+ActionOk s (Action.Increment a) = ChangeOk (changeOf (a .change))
 ActionOk s (Action.Swap v n e) = Within s 64 v
 ActionOk s (Action.Remove n) = Unit {0}
 ActionOk s (Action.Join e v p c) = Within s 64 v × ChangeOk (changeOf c)

@@ -20,55 +20,13 @@ pub fn execute(table: &mut [u8], time: u64, s: &[u8], request: Request, reply: &
     let live = live::find_live(table, time, key);
     let action = request.action;
     match action {
-        Action::Set {
-            value,
-            presence,
-            change,
-            expire,
-            flags,
-            with_version,
-        } => {
-            let text = command::word_of(s, value);
-            write::set(
-                table,
-                time,
-                key,
-                live,
-                text,
-                presence,
-                change,
-                expire,
-                flags,
-                with_version,
-                reply,
-            )
+        Action::Set(set) => {
+            let text = command::word_of(s, set.value);
+            write::set(table, time, key, live, text, set, reply)
         }
         Action::Get { with_flags } => access::get(table, live, with_flags, reply),
         Action::SetVersion { version } => access::set_version(table, live, version, reply),
-        Action::Increment {
-            by,
-            presence,
-            change,
-            expire,
-            min,
-            max,
-            non_negative,
-            with_version,
-        } => write::increment(
-            table,
-            time,
-            key,
-            live,
-            by,
-            presence,
-            change,
-            expire,
-            min,
-            max,
-            non_negative,
-            with_version,
-            reply,
-        ),
+        Action::Increment(increment) => write::increment(table, time, key, live, increment, reply),
         Action::Swap {
             value,
             version,

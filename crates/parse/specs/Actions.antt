@@ -24,8 +24,8 @@ keepsOf model.EXSETVER = false
 keepsOf model.EXINCRBY = true
 keepsOf model.EXCAS = false
 keepsOf model.EXCAD = false
-keepsOf model.EXAPPEND = false
-keepsOf model.EXPREPEND = false
+keepsOf model.EXAPPEND = true
+keepsOf model.EXPREPEND = true
 keepsOf model.EXGAE = false
 keepsOf model.DEL = false
 
@@ -49,13 +49,36 @@ saidFrom now keeps gs =
     saidWith gs (changeFrom (model.changeOf (pick model.verOrAbs gs))) (expireFrom (model.expireOf now (otherwise keeps) (pick model.timeWord gs)))
     (model.flagsGiven (pick model.flagsWord gs)) (boundFrom (model.boundOf (pick model.minWord gs))) (boundFrom (model.boundOf (pick model.maxWord gs)))
 
+-- the action of EXSET with the value v
+abbrev pub setSaid : Span → Said → Action
+setSaid v o = Action.Set (record {
+  value = v;
+  presence = o .presence;
+  change = o .change;
+  expire = o .expire;
+  flags = o .flags;
+  withversion = o .withversion;
+})
+
+-- the action of EXINCRBY by z
+abbrev pub incrementSaid : ℤ → Said → Action
+incrementSaid z o = Action.Increment (record {
+  by = z;
+  presence = o .presence;
+  change = o .change;
+  expire = o .expire;
+  min = o .min;
+  max = o .max;
+  nonnegative = o .nonnegative;
+  withversion = o .withversion;
+})
+
 -- the action with the value v, the signed number z and the version n
 abbrev pub actionSaid : Name → (v : Span) → (z : ℤ) → (n : ℕ) → Said → Action
-actionSaid model.EXSET v z n o = Action.Set v (o .presence) (o .change) (o .expire) (o .flags) (o .withversion)
+actionSaid model.EXSET v z n o = setSaid v o
 actionSaid model.EXGET v z n o = Action.Get (o .withflags)
 actionSaid model.EXSETVER v z n o = Action.SetVersion n
-actionSaid model.EXINCRBY v z n o =
-    Action.Increment z (o .presence) (o .change) (o .expire) (o .min) (o .max) (o .nonnegative) (o .withversion)
+actionSaid model.EXINCRBY v z n o = incrementSaid z o
 actionSaid model.EXCAS v z n o = Action.Swap v n (o .expire)
 actionSaid model.EXCAD v z n o = Action.Remove n
 actionSaid model.EXAPPEND v z n o = Action.Join End.Back v (o .presence) (o .change)

@@ -4,15 +4,17 @@ use command::Bound;
 use command::Change;
 use command::End;
 use command::Expire;
+use command::Increment;
 use command::Name;
 use command::Presence;
+use command::Set;
 use command::Span;
 ghost use mathlib.Core.Path.{_≡_};
 ghost use Rattle.model.specs.Command.{expirySet};
 ghost use Rattle.command.specs.Command.{expireOf};
 ghost use Rattle.command.specs.Words.{nameOf};
 ghost use Rattle.command.specs.declared.Action.the-variants as ActionOf;
-ghost use Rattle.parse.specs.Actions.{actionSaid};
+ghost use Rattle.parse.specs.Actions.{setSaid, incrementSaid, actionSaid};
 
 // What the options of a command say.
 pub struct Said {
@@ -29,40 +31,40 @@ pub struct Said {
 
 // The action of EXSET.
 fn set(value: Span, said: Said) -> Action
-    ensures { λ r. ⌜ r ≡ ActionOf.Set value (said .presence) (said .change) (said .expire) (said .flags) (said .withversion) ⌝ }
+    ensures { λ r. ⌜ r ≡ setSaid value said ⌝ }
 {
     let presence = said.presence;
     let change = said.change;
     let expire = said.expire;
-    Action::Set {
+    Action::Set(Set {
         value,
         presence,
         change,
         expire,
         flags: said.flags,
-        with_version: said.withversion,
-    }
+        withversion: said.withversion,
+    })
 }
 
 // The action of EXINCRBY.
 fn increment(by: i64, said: Said) -> Action
-    ensures { λ r. ⌜ r ≡ ActionOf.Increment by (said .presence) (said .change) (said .expire) (said .min) (said .max) (said .nonnegative) (said .withversion) ⌝ }
+    ensures { λ r. ⌜ r ≡ incrementSaid by said ⌝ }
 {
     let presence = said.presence;
     let change = said.change;
     let expire = said.expire;
     let min = said.min;
     let max = said.max;
-    Action::Increment {
+    Action::Increment(Increment {
         by,
         presence,
         change,
         expire,
         min,
         max,
-        non_negative: said.nonnegative,
-        with_version: said.withversion,
-    }
+        nonnegative: said.nonnegative,
+        withversion: said.withversion,
+    })
 }
 
 // The action of EXAPPEND and EXPREPEND.

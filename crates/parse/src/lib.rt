@@ -67,8 +67,8 @@ fn keeps(name: Name) -> bool
         Name::Exincrby => true,
         Name::Excas => false,
         Name::Excad => false,
-        Name::Exappend => false,
-        Name::Exprepend => false,
+        Name::Exappend => true,
+        Name::Exprepend => true,
         Name::Exgae => false,
         Name::Del => false,
     }

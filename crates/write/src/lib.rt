@@ -4,7 +4,9 @@ use command::Bound;
 use command::Change;
 use command::End;
 use command::Expire;
+use command::Increment;
 use command::Presence;
+use command::Set;
 use count::Total;
 use live::Flags;
 use put::Stored;
@@ -98,33 +100,36 @@ pub fn set(
     key: &[u8],
     live: Found,
     value: &[u8],
-    presence: Presence,
-    change: Change,
-    expire: Expire,
-    flags: u32,
-    with_version: bool,
+    set: Set,
     reply: &mut [u8],
 ) -> Answer
     requires { ⌜ Ready (held (now table) (now reply)) time (now key) live ⌝ }
-    requires { ⌜ (length (now value) ≤ 64) × ChangeOk (changeOf change) ⌝ }
-    ensures { λ r. ⌜ Does (held (now (table .entry)) (now (reply .entry))) (held (now (table .exit)) (now (reply .exit))) time live (exset (now (key .entry)) (now (value .entry)) (presenceOf presence) (changeOf change) (expireOf expire) flags «with_version») r ⌝ }
+    requires { ⌜ (length (now value) ≤ 64) × ChangeOk (changeOf (set .change)) ⌝ }
+    ensures { λ r. ⌜ Does (held (now (table .entry)) (now (reply .entry))) (held (now (table .exit)) (now (reply .exit))) time live (exset (now (key .entry)) (now (value .entry)) (presenceOf (set .presence)) (changeOf (set .change)) (expireOf (set .expire)) (set .flags) (set .withversion)) r ⌝ }
 {
+    let presence = set.presence;
+    let change = set.change;
     match admit(table, live, presence, change) {
         Admission::Nil => access::nil(reply),
         Admission::Stale => access::refuse(reply, 12),
         Admission::Granted => {
-            let given = Flags::Set(flags);
+            let expire = set.expire;
+            let given = Flags::Set(set.flags);
             let stored = put::store_value(table, time, key, live, value, change, expire, given);
-            finish(stored, Success::Set(with_version), reply)
+            finish(stored, Success::Set(set.withversion), reply)
         }
     }
 }
 
 // What EXINCRBY comes to: the sum of the number stored, 0 under an absent key, and the one given.
-fn total(table: &[u8], live: Found, by: i64, min: Bound, max: Bound, non_negative: bool) -> Total
+fn total(table: &[u8], live: Found, increment: Increment) -> Total
     requires { ⌜ Sound (now table) live ⌝ }
-    ensures { λ r. ⌜ r ≡ totalFrom (totalOf by (boundOf min) (boundOf max) «non_negative» (valueIn (liveOf (now (table .entry)) live))) ⌝ }
+    ensures { λ r. ⌜ r ≡ totalFrom (totalOf (increment .by) (boundOf (increment .min)) (boundOf (increment .max)) (increment .nonnegative) (valueIn (liveOf (now (table .entry)) live))) ⌝ }
 {
+    let by = increment.by;
+    let min = increment.min;
+    let max = increment.max;
+    let non_negative = increment.nonnegative;
     let Found::At(slot) = live else {
         return count::add_within(0, by, min, max, non_negative);
     };
@@ -138,28 +143,24 @@ pub fn increment(
     time: u64,
     key: &[u8],
     live: Found,
-    by: i64,
-    presence: Presence,
-    change: Change,
-    expire: Expire,
-    min: Bound,
-    max: Bound,
-    non_negative: bool,
-    with_version: bool,
+    increment: Increment,
     reply: &mut [u8],
 ) -> Answer
     requires { ⌜ Ready (held (now table) (now reply)) time (now key) live ⌝ }
-    requires { ⌜ ChangeOk (changeOf change) ⌝ }
-    ensures { λ r. ⌜ Does (held (now (table .entry)) (now (reply .entry))) (held (now (table .exit)) (now (reply .exit))) time live (exincrby (now (key .entry)) by (presenceOf presence) (changeOf change) (expireOf expire) (boundOf min) (boundOf max) «non_negative» «with_version») r ⌝ }
+    requires { ⌜ ChangeOk (changeOf (increment .change)) ⌝ }
+    ensures { λ r. ⌜ Does (held (now (table .entry)) (now (reply .entry))) (held (now (table .exit)) (now (reply .exit))) time live (exincrby (now (key .entry)) (increment .by) (presenceOf (increment .presence)) (changeOf (increment .change)) (expireOf (increment .expire)) (boundOf (increment .min)) (boundOf (increment .max)) (increment .nonnegative) (increment .withversion)) r ⌝ }
 {
+    let presence = increment.presence;
+    let change = increment.change;
     match admit(table, live, presence, change) {
         Admission::Nil => access::nil(reply),
         Admission::Stale => access::refuse(reply, 12),
-        Admission::Granted => match total(table, live, by, min, max, non_negative) {
+        Admission::Granted => match total(table, live, increment) {
             Total::Refused(number) => access::refuse(reply, number),
             Total::Value(z) => {
+                let expire = increment.expire;
                 let stored = put::store_number(table, time, key, live, z, change, expire);
-                finish(stored, Success::Count(with_version, z), reply)
+                finish(stored, Success::Count(increment.withversion, z), reply)
             }
         },
     }

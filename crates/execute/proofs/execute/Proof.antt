@@ -1,12 +1,9 @@
 -- `execute::execute` meets its contract, action by action: what the callee gives is what the model's execution gives.
-use mathlib.Core.Path.{_≡_, sym, ap, subst, _∙_}
+use mathlib.Core.Path.{_≡_, refl, sym, ap, subst, _∙_}
 use mathlib.Core.List.{List}
 use Prim.Native.Nat.{ℕ, _≤_}
 use lib.ListN.{length}
 use borrow.Author.Needs.{needs}
-use mir.Syntax.{w64}
-use mir.Val.{SFits}
-use Rattle.number.proofs.Integers.{back, back-is}
 use Rattle.model.specs.Table.{form128}
 use Rattle.model.specs.Execute.{execute, executeOn}
 use Rattle.model.specs.Call.{Outcome, effectOn}
@@ -17,7 +14,7 @@ use Rattle.live.specs.Live.{liveOf}
 use Rattle.access.specs.Gives.{held}
 use Rattle.write.specs.Does.{Ready}
 use Rattle.execute.specs.Fit.{ActionOk}
-use Rattle.execute.proofs.Actions.{executed, set-text, swap-text, join-text, number-back}
+use Rattle.execute.proofs.Actions.{executed, set-text, swap-text, join-text}
 use Rattle.execute.proofs.execute.Statement.{statement}
 use Rattle.execute.proofs.execute.Tie as tie
 
@@ -143,7 +140,7 @@ returns c =
     let g = c .before .before .before .before .before .before .before .before .before .action .given .0 in
     done f _ (c .before .before .before .before .before .before .before .before .before .action .given .1) _
     (set-text (s .args .table .now) (s .args .reply .now) (s .args .s .now) (s .args .time) (f .before .before .word-of .result .now) (c .before .before .before .before .before .before .before .word-of2 .result .now)
-    (liveOf (s .args .table .now) (f .find-live .result)) (g .0) (c .before .before .before .before .before .before .before .word-of2 .ensures) _ (g .1 .0) (g .1 .1 .0) (g .1 .1 .1 .0) (g .1 .1 .1 .1 .0) (g .1 .1 .1 .1 .1 .0) (c .before .before .before .before .set .ensures))
+    (liveOf (s .args .table .now) (f .find-live .result)) _ (c .before .before .before .before .before .before .before .word-of2 .ensures) _ (g .0) refl (c .before .before .before .before .set .ensures))
 
 same-length-3 : tie.Need-same-length-3
 same-length-3 c = search needs
@@ -176,14 +173,7 @@ same-length-8 c = search needs
 returns-4 : tie.Need-returns-4
 returns-4 c =
     let f = c .before .before .before .before .before .before .before .before .before .before in
-    let s = f .before .before .before .before .before .before in
-    let g = c .before .before .before .before .before .before .before .before .action4 .given .0 in
-    let fits : SFits w64 (g .0) = record { sfits = c .before .before .before .before .before .before .before .known-told4 .given .0 .1 } in
-    done f _ (c .before .before .before .before .before .before .before .before .action4 .given .1) _
-    (number-back (s .args .table .now) (s .args .reply .now) (s .args .s .now) (s .args .time) (f .before .before .word-of .result .now)
-    (liveOf (s .args .table .now) (f .find-live .result)) (back (g .0)) (g .0) (back-is fits) _
-    (g .1 .0) (g .1 .1 .0) (g .1 .1 .1 .0) (g .1 .1 .1 .1 .0) (g .1 .1 .1 .1 .1 .0) (g .1 .1 .1 .1 .1 .1 .0) (g .1 .1 .1 .1 .1 .1 .1 .0)
-    (c .before .before .before .before .increment .ensures))
+    done f _ (c .before .before .before .before .before .before .before .before .action4 .given .1) _ (c .before .before .before .before .increment .ensures)
 
 same-length-9 : tie.Need-same-length-9
 same-length-9 c = search needs

@@ -27,23 +27,23 @@ abbrev place : tie.Start → Place
 place s = record { time = s .args .time; key = s .args .key .now; table = s .args .table .now; reply = s .args .reply .now; live = s .args .live }
 
 abbrev presence : tie.Start → Presence
-presence s = presenceOf (s .args .presence)
+presence s = presenceOf (s .args .increment .presence)
 
 abbrev writing : tie.Start → Write
 writing s =
-    counting (s .args .by) (changeOf (s .args .change)) (expireOf (s .args .expire)) (boundOf (s .args .min)) (boundOf (s .args .max)) (s .args .non-negative)
-    (s .args .with-version)
+    counting (s .args .increment .by) (changeOf (s .args .increment .change)) (expireOf (s .args .increment .expire)) (boundOf (s .args .increment .min)) (boundOf (s .args .increment .max)) (s .args .increment .nonnegative)
+    (s .args .increment .withversion)
 
 -- the sum, its text and its reply
 abbrev sums : tie.Start → Checked ℤ
-sums s = totalOf (s .args .by) (boundOf (s .args .min)) (boundOf (s .args .max)) (s .args .non-negative) (valueIn (liveAt (place s)))
+sums s = totalOf (s .args .increment .by) (boundOf (s .args .increment .min)) (boundOf (s .args .increment .max)) (s .args .increment .nonnegative) (valueIn (liveAt (place s)))
 
 abbrev new : tie.Start → ℤ → New
-new s z = record { text = intText z; reply = countReply (s .args .with-version) z }
+new s z = record { text = intText z; reply = countReply (s .args .increment .withversion) z }
 
 abbrev put : tie.Start → ℤ → Checked Put
 put s z =
-    putting (s .args .time) (s .args .table .now) (s .args .key .now) (s .args .live) (changeOf (s .args .change)) (expireOf (s .args .expire)) none (intText z)
+    putting (s .args .time) (s .args .table .now) (s .args .key .now) (s .args .live) (changeOf (s .args .increment .change)) (expireOf (s .args .increment .expire)) none (intText z)
 
 abbrev start : tie.After-admit → tie.Start
 start c = c .before .before .before .before .before
@@ -55,7 +55,7 @@ passed c x e =
     let a = c .before .before in
     let s = start a in
     admission-passed (place s) (writing s) (presence s) _ (a .admit .ensures) (c .enum-told3 .given .1) (x >>= λ z. ok (new s z))
-    (counted-total (s .args .by) (boundOf (s .args .min)) (boundOf (s .args .max)) (s .args .non-negative) (valueIn (liveAt (place s))) (s .args .with-version)
+    (counted-total (s .args .increment .by) (boundOf (s .args .increment .min)) (boundOf (s .args .increment .max)) (s .args .increment .nonnegative) (valueIn (liveAt (place s))) (s .args .increment .withversion)
     ∙ ap (λ (y : Checked ℤ). y >>= λ z. ok (new s z)) e)
 
 -- the sum, where it is known
@@ -63,7 +63,7 @@ abbrev start-u : tie.After-total → tie.Start
 start-u c = start (c .before .before .before .before)
 
 total-is : (c : tie.After-total) → c .total .result ≡ totalFrom (sums (start-u c))
-total-is c = simp (back-is (start-u c .fits .by)) at (c .total .ensures)
+total-is c = c .total .ensures
 
 refused-is : (c : tie.After-number) → sums (start-u (c .before .before)) ≡ refuse (c .number .given .0 .0)
 refused-is c = total-refused _ _ (sym (total-is (c .before .before)) ∙ c .number .given .1)
@@ -194,7 +194,7 @@ returns-4 c =
     let s = start-z z in
     let told = f .finish .ensures (s .args .table .now) _ (put s (sum z)) (stored-is v) in
     told
-    ∙ (ap (λ (y : ℤ). outcome (place s) (put s (sum z) >>= λ p. ok (putEffect (countReply (s .args .with-version) y) p))) (back-is (fits k))
+    ∙ (ap (λ (y : ℤ). outcome (place s) (put s (sum z) >>= λ p. ok (putEffect (countReply (s .args .increment .withversion) y) p))) (back-is (fits k))
     ∙ ap (outcome (place s)) (sym (passed (z .before .before .before .before) _ (sum-is z))))
 
 pub increment-spec : {M : Type 1} → statement M

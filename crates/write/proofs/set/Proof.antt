@@ -18,17 +18,17 @@ abbrev place : tie.Start → Place
 place s = record { time = s .args .time; key = s .args .key .now; table = s .args .table .now; reply = s .args .reply .now; live = s .args .live }
 
 abbrev presence : tie.Start → Presence
-presence s = presenceOf (s .args .presence)
+presence s = presenceOf (s .args .set .presence)
 
 abbrev writing : tie.Start → Write
-writing s = setting (s .args .value .now) (changeOf (s .args .change)) (expireOf (s .args .expire)) (s .args .flags) (s .args .with-version)
+writing s = setting (s .args .value .now) (changeOf (s .args .set .change)) (expireOf (s .args .set .expire)) (s .args .set .flags) (s .args .set .withversion)
 
 -- the new text and its reply, and what is put
 abbrev new : tie.Start → New
-new s = record { text = s .args .value .now; reply = setReply (s .args .with-version) }
+new s = record { text = s .args .value .now; reply = setReply (s .args .set .withversion) }
 
 abbrev put : tie.Start → Checked Put
-put s = putting (s .args .time) (s .args .table .now) (s .args .key .now) (s .args .live) (changeOf (s .args .change)) (expireOf (s .args .expire)) (some (s .args .flags)) (new s .text)
+put s = putting (s .args .time) (s .args .table .now) (s .args .key .now) (s .args .live) (changeOf (s .args .set .change)) (expireOf (s .args .set .expire)) (some (s .args .set .flags)) (new s .text)
 
 abbrev start : tie.After-admit → tie.Start
 start c = c .before .before .before .before .before .before

@@ -3,6 +3,8 @@ use mathlib.Core.Path.{sym, ap, _∙_}
 use mathlib.Core.List.{List}
 use mathlib.Core.Option.{some}
 use Prim.Native.Nat.{ℕ}
+use mir.Syntax.{w64}
+use mir.Val.{SFits}
 use borrow.Author.Needs.{needs}
 use Rattle.model.specs.Table.{Record}
 use Rattle.model.specs.Execute.{valueIn}
@@ -18,7 +20,11 @@ use Rattle.write.proofs.total.Tie as tie
 
 -- what it comes to, by the slot of the live record
 abbrev sums : tie.Start → Found → Total
-sums s o = totalFrom (totalOf (s .args .by) (boundOf (s .args .min)) (boundOf (s .args .max)) (s .args .non-negative) (valueIn (liveOf (s .args .table .now) o)))
+sums s o = totalFrom (totalOf (s .args .increment .by) (boundOf (s .args .increment .min)) (boundOf (s .args .increment .max)) (s .args .increment .nonnegative) (valueIn (liveOf (s .args .table .now) o)))
+
+-- what is added is an i64
+fits : (c : tie.After-struct-told) → SFits w64 (c .before .before .args .increment .by)
+fits c = record { sfits = c .struct-told .given .0 .1 }
 
 enum-known-live : tie.Need-enum-known-live
 enum-known-live c = search needs
@@ -32,14 +38,14 @@ add-within-requires c κs = search needs
 returns : tie.Need-returns
 returns c =
     let m = c .before in
-    let s = m .before .before .before in
-    simp (back-is (s .fits .by)) at (c .add-within .ensures)
-    ∙ (sym (ap totalFrom (total-absent (s .args .by) (boundOf (s .args .min)) (boundOf (s .args .max)) (s .args .non-negative))) ∙ ap (sums s) (sym (m .enum-told .given .1)))
+    let s = m .before .before .before .before in
+    simp (back-is (fits (m .before .before))) at (c .add-within .ensures)
+    ∙ (sym (ap totalFrom (total-absent (s .args .increment .by) (boundOf (s .args .increment .min)) (boundOf (s .args .increment .max)) (s .args .increment .nonnegative))) ∙ ap (sums s) (sym (m .enum-told .given .1)))
 
 record-at-requires : tie.Need-record-at-requires
 record-at-requires c κs =
     let l = c .before in
-    let s = l .before .before .before in
+    let s = l .before .before .before .before in
     (s .pre .reads, s .pre .in-use _ (l .live .given .1))
 
 value-requires : tie.Need-value-requires
@@ -52,10 +58,10 @@ returns-2 : tie.Need-returns-2
 returns-2 c =
     let r = c .before .before in
     let l = r .before .before in
-    let s = l .before .before .before in
+    let s = l .before .before .before .before in
     let text = c .before .value .ensures ∙ ap (λ (r : Record). r .value) (r .record-at .ensures .is) in
-    simp (back-is (s .fits .by)) at (c .add-to-text .ensures)
-    ∙ (ap (λ (v : List ℕ). totalFrom (totalOf (s .args .by) (boundOf (s .args .min)) (boundOf (s .args .max)) (s .args .non-negative) (some v))) text ∙ ap (sums s) (sym (l .live .given .1)))
+    simp (back-is (fits (l .before .before))) at (c .add-to-text .ensures)
+    ∙ (ap (λ (v : List ℕ). totalFrom (totalOf (s .args .increment .by) (boundOf (s .args .increment .min)) (boundOf (s .args .increment .max)) (s .args .increment .nonnegative) (some v))) text ∙ ap (sums s) (sym (l .live .given .1)))
 
 pub total-spec : {M : Type 1} → statement M
 total-spec =
