@@ -37,7 +37,7 @@ fn spells(w: &[u8], keyword: &[u8]) -> bool
 }
 
 // The place of the keyword that a word spells, or the count of the keywords where it spells none. Before each keyword stands its length.
-fn place_of(w: &[u8], keywords: &[u8]) -> usize
+pub fn place_of(w: &[u8], keywords: &[u8]) -> usize
     requires { ⌜ wholeAfter 0 (now keywords) ≡ true ⌝ }
     ensures { λ r. ⌜ r ≡ placeIn (wordsAfter 0 (now (keywords .entry))) (uppers (now (w .entry))) ⌝ }
 {

@@ -3,8 +3,8 @@
 // it is not 0, and by what became of the table.
 use crate::session::print_answer_number;
 use crate::session::send;
-use crate::text::print;
-use crate::text::print_number;
+use terminal::print;
+use terminal::print_number;
 
 // Runs the rows, then the "Also" lines.
 pub fn run_all(table: &mut [u8; 128]) {

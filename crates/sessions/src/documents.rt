@@ -2,8 +2,8 @@
 // table of two records. The two documents agree on them.
 use crate::session::print_answer_number;
 use crate::session::send;
-use crate::text::find;
-use crate::text::print;
+use terminal::find;
+use terminal::print;
 
 // Runs every session.
 pub fn run_all(table: &mut [u8; 256]) {

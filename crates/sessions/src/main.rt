@@ -3,9 +3,7 @@
 mod bench;
 mod compose;
 mod documents;
-mod printed;
 mod session;
-mod text;
 
 fn main() {
     let mut one = [0u8; 128];

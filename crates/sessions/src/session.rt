@@ -1,9 +1,9 @@
 // One command sent to the store, and printed with its reply.
 use crate::compose::encode;
-use crate::printed::print_reply;
-use crate::text::print;
-use crate::text::print_number;
 use access::Answer;
+use terminal::print;
+use terminal::print_number;
+use terminal::print_reply;
 
 // Calls the store with the first n bytes of a buffer as the command, and gives back its answer. More
 // bytes than the buffer has are answered as a command that cannot be read.

@@ -1,0 +1,94 @@
+// The options of a command line, by their places among the arguments.
+use crate::switch::Switch;
+use crate::switch::switch_of;
+use crate::switch::takes_value;
+ghost use Prim.Native.Nat.{_≤_};
+
+// The place of each option's value, or of the option where it takes none; 0 where it is not given. Of two, the last counts. The words
+// of the command begin at `words`, which is the count of the arguments where there are none.
+pub struct Line {
+    pub table: usize,
+    pub time: usize,
+    pub init: usize,
+    pub list: usize,
+    pub help: usize,
+    pub status: usize,
+    pub unknown: usize,
+    pub words: usize,
+}
+
+// The option at a place. An argument of more than 4,096 bytes is no option.
+fn switch_at(at: usize) -> Switch {
+    let mut word = io::buffer();
+    let n = os::arg(at, &mut word);
+    if os::errno() != 0 {
+        return Switch::Word;
+    }
+    switch_of(&word[..n])
+}
+
+// A line with the option at a place added; its value is the argument after it.
+fn noted(mut line: Line, switch: Switch, at: usize, value: usize) -> Line {
+    match switch {
+        Switch::Table => line.table = value,
+        Switch::Time => line.time = value,
+        Switch::Init => line.init = value,
+        Switch::List => line.list = at,
+        Switch::Help => line.help = at,
+        Switch::Status => line.status = at,
+        Switch::Unknown => line.unknown = at,
+        Switch::Word => line.words = at,
+    }
+    line
+}
+
+// A line with no option and no word.
+fn bare(count: usize) -> Line {
+    Line {
+        table: 0,
+        time: 0,
+        init: 0,
+        list: 0,
+        help: 0,
+        status: 0,
+        unknown: 0,
+        words: count,
+    }
+}
+
+// Whether an argument is the first word of a command.
+fn is_word(switch: Switch) -> bool {
+    if let Switch::Word = switch {
+        true
+    } else {
+        false
+    }
+}
+
+// The place after an option, and after its value where it takes one.
+fn after(switch: Switch, value: usize, count: usize) -> usize
+    ensures { λ r. ⌜ value ≤ r ⌝ }
+{
+    if takes_value(switch) {
+        if value < count {
+            return value + 1;
+        }
+    }
+    value
+}
+
+// The options among the first `count` arguments, up to the first word.
+pub fn read_line(count: usize) -> Line {
+    let mut line = bare(count);
+    let mut at = 1;
+    while at < count {
+        let switch = switch_at(at);
+        let value = at + 1;
+        line = noted(line, switch, at, value);
+        if is_word(switch) {
+            return line;
+        }
+        at = after(switch, value, count);
+    }
+    line
+}

@@ -1,0 +1,62 @@
+-- `exchange::carry_out` meets its contract: the number that is tested and the table that is compared are the call's.
+use mathlib.Core.Path.{_≡_, sym, _∙_}
+use lib.ListN.{length}
+use borrow.Author.Needs.{needs}
+use borrow.Author.Tests.{eq-eqb, ne-eqb}
+use Rattle.model.specs.Table.{form128}
+use Rattle.model.specs.Call.{Outcome, call}
+use Rattle.shell.proofs.exchange.carry_out.Statement.{statement}
+use Rattle.shell.proofs.exchange.carry_out.Tie as tie
+
+-- what the store's call comes to
+abbrev outcome : tie.Start → Outcome
+outcome c = call form128 (c .args .table .now) (c .args .time) (c .args .command .now) (c .args .reply .now)
+
+call-requires : tie.Need-call-requires
+call-requires c κs = search needs
+
+same-length : tie.Need-same-length
+same-length c = search needs
+
+same-length-2 : tie.Need-same-length-2
+same-length-2 c = search needs
+
+returns : tie.Need-returns
+returns c =
+    let e = c .before .before .before .before .before .before in
+    let o = outcome (e .before .before .before .before .before .before .before) in
+    record {
+      called = e .call .ensures;
+      writes = rw (ne-eqb (o .number) 0 (λ z. c .if1 .taken (e .call .ensures .number ∙ z)));
+    }
+
+same-requires : tie.Need-same-requires
+same-requires c κs = search needs
+
+same-length-3 : tie.Need-same-length-3
+same-length-3 c = search needs
+
+same-length-4 : tie.Need-same-length-4
+same-length-4 c = search needs
+
+returns-2 : tie.Need-returns-2
+returns-2 c =
+    let e = c .before .before .before .before .before .before .before .before in
+    let o = outcome (e .before .before .before .before .before .before .before) in
+    record {
+      called = e .call .ensures;
+      writes = rw (eq-eqb (o .number) 0 (sym (e .call .ensures .number) ∙ c .before .before .if1 .left), ← e .call .ensures .table, c .same .ensures);
+    }
+
+pub carry-out-spec : {M : Type 1} → statement M
+carry-out-spec =
+    tie.close
+    (tie.spec
+    call-requires
+    same-length
+    same-length-2
+    returns
+    same-requires
+    same-length-3
+    same-length-4
+    returns-2)

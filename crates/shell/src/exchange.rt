@@ -1,0 +1,35 @@
+// One command on a table in memory, and whether the table's file is to be written after it.
+use access::Answer;
+ghost use mathlib.Core.Path.{_≡_};
+ghost use Rattle.model.specs.Table.{form128};
+ghost use Rattle.model.specs.Call.{call};
+ghost use Rattle.shell.specs.Exchange.{Exchanged};
+
+// The answer, and whether the table is to be written.
+pub struct Exchange {
+    pub answer: Answer,
+    pub write: bool,
+}
+
+// Calls the store. `old` is the table as its file has it, and `missing` says that there is no file yet.
+pub fn carry_out(
+    old: &[u8],
+    missing: bool,
+    table: &mut [u8],
+    time: u64,
+    command: &[u8],
+    reply: &mut [u8],
+) -> Exchange
+    ensures { λ r. ⌜ Exchanged (call form128 (now (table .entry)) time (now (command .entry)) (now (reply .entry))) (now (old .entry)) missing r (now (table .exit)) (now (reply .exit)) ⌝ }
+{
+    let answer = store::call(table, time, command, reply);
+    if answer.number != 0 {
+        return Exchange {
+            answer,
+            write: false,
+        };
+    }
+    let changed = !slice::same(old, table);
+    let write = missing | changed;
+    Exchange { answer, write }
+}

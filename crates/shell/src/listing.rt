@@ -1,0 +1,110 @@
+// The records of a table, a line each.
+use crate::SPACE;
+use crate::tell::DONE;
+use crate::tell::REFUSED;
+use crate::tell::refuse_call;
+use crate::tell::refuse_file;
+use tablefile::Loaded;
+use tablefile::load;
+use terminal::print;
+use terminal::print_natural;
+use terminal::print_quoted;
+ghost use mathlib.Core.Path.{_≡_};
+ghost use mathlib.Core.Bool.{true};
+ghost use Rattle.model.specs.Table.{form128, readTable};
+ghost use Rattle.model.specs.Command.{isSome};
+ghost use Rattle.record.specs.Record.{InUse};
+
+// The latest time, 2^62.
+const LATEST: u64 = 4611686018427387904;
+
+// The bytes of a record.
+const RECORD_SIZE: usize = 128;
+
+// Prints an expiry; 0 is none.
+fn print_expiry(expiry: u64) {
+    if expiry == 0 {
+        print(b", no expiry");
+    } else {
+        print_natural(b", expiry ", expiry);
+    }
+}
+
+// Prints a record in use on a line.
+fn print_record(r: &[u8], slot: usize, time: u64)
+    requires { ⌜ InUse (now r) ⌝ }
+{
+    print_natural(b"slot ", slot as u64);
+    print(b": ");
+    print_quoted(record::key(r));
+    print(b" = ");
+    print_quoted(record::value(r));
+    print_natural(b", version ", record::version(r));
+    print_natural(b", flags ", record::flags(r) as u64);
+    print_expiry(record::expiry(r));
+    if record::is_live(r, time) {
+        print(b", live\n");
+    } else {
+        print(b", expired\n");
+    }
+}
+
+// Prints how many records are in use.
+fn print_count(used: usize, n: usize) {
+    print_natural(b"", used as u64);
+    print_natural(b" of ", n as u64);
+    print(b" records in use\n");
+}
+
+// Prints the records in use of a table.
+fn list_records(table: &[u8], time: u64)
+    requires { ⌜ isSome (readTable form128 (now table)) ≡ true ⌝ }
+{
+    let n = table.len() / RECORD_SIZE;
+    let mut used: usize = 0;
+    let mut i = 0;
+    while i < n {
+        let from = i * RECORD_SIZE;
+        let r = &table[from..from + RECORD_SIZE];
+        if record::in_use(r) {
+            print_record(r, i, time);
+            used += 1;
+        }
+        i += 1;
+    }
+    print_count(used, n);
+}
+
+// Lists a table, or refuses one that is none.
+fn list_table(table: &[u8], path: &[u8], time: u64) -> u64 {
+    if !table::records_ok(table) {
+        return refuse_call(1, path);
+    }
+    if !table::keys_ok(table) {
+        return refuse_call(1, path);
+    }
+    if LATEST < time {
+        return refuse_call(2, path);
+    }
+    list_records(table, time);
+    DONE
+}
+
+// Lists the table in the first n bytes of a buffer.
+fn list_first(buffer: &[u8; SPACE], n: usize, path: &[u8], time: u64) -> u64 {
+    let table: &[u8] = buffer;
+    if n <= table.len() {
+        return list_table(&table[0..n], path, time);
+    }
+    refuse_call(1, path)
+}
+
+// Lists a table's file.
+pub fn list(path: &[u8], time: u64) -> u64 {
+    let mut table = [0u8; SPACE];
+    match load(path, &mut table) {
+        Loaded::Bytes(n) => list_first(&table, n, path, time),
+        Loaded::Missing => refuse_file(path, b"no such file"),
+        Loaded::Failed => REFUSED,
+    }
+}

@@ -1,0 +1,47 @@
+-- `name::put_new_name` meets its contract: the path and the ending are two pieces side by side.
+use Prim.Native.Nat.{_+_, _≤_}
+use native.Mathlib.Omega.{arith}
+use mathlib.Core.Path.{refl}
+use mathlib.Core.List.{_++_}
+use lib.ListN.{length, length-append}
+use borrow.Author.Needs.{needs}
+use Rattle.model.specs.Bytes.{text}
+use Rattle.number.specs.Wrote.{Wrote}
+use Rattle.reply.proofs.Pieces.{room-first, room-after, wrote-then}
+use Rattle.tablefile.proofs.name.put_new_name.Statement.{statement}
+use Rattle.tablefile.proofs.name.put_new_name.Tie as tie
+
+-- the path was written
+wrote-path : (c : tie.After-copy) → let s = c .before .before .before .before in
+    Wrote 0 (s .args .path .now) (s .args .out .now) (c .copy .last .0) (length (s .args .path .now))
+wrote-path c = record { place = omega arith; bytes = c .copy .ensures }
+
+-- both have room
+room : (c : tie.Start) → 0 + length (c .args .path .now ++ text ".new") ≤ length (c .args .out .now)
+room c = omega (arith, c .pre)
+
+copy-requires : tie.Need-copy-requires
+copy-requires c κs = let s = c .before .before .before in room-first 0 (s .args .path .now) (text ".new") (room s)
+
+slice-aggregate-copy : tie.Need-slice-aggregate-copy
+slice-aggregate-copy c = search needs
+
+copy-requires-2 : tie.Need-copy-requires-2
+copy-requires-2 c κs = let w = c .before .before .before .before in room-after (text ".new") (room (w .before .before .before .before)) (wrote-path w)
+
+add-result : tie.Need-add-result
+add-result c = search needs
+
+same-length : tie.Need-same-length
+same-length c = search needs
+
+returns : tie.Need-returns
+returns c =
+    let e = c .before .before in
+    let w = e .before .before .before .before .before in
+    wrote-then (omega arith) (wrote-path w) (record { place = refl; bytes = e .copy2 .ensures })
+
+pub put-new-name-spec : {M : Type 1} → statement M
+put-new-name-spec =
+    tie.close
+    (tie.spec copy-requires slice-aggregate-copy copy-requires-2 add-result same-length returns)

@@ -1,0 +1,39 @@
+// Reading a file whole.
+use crate::Loaded;
+use terminal::complain;
+
+// Says on standard error why the last call on a file failed.
+pub fn tell(path: &[u8]) {
+    complain(b"pietrunel: ");
+    os::fail(path);
+}
+
+// Reads a descriptor to its end, or until the buffer is full.
+pub fn read_whole(fd: i32, path: &[u8], buf: &mut [u8]) -> Loaded {
+    let n = io::read_full(fd, buf);
+    if n == buf.len() {
+        return Loaded::Bytes(n);
+    }
+    // a read that fails moves nothing, as one at the end does: one more read tells them apart
+    let mut more = [0u8; 1];
+    if libc::read(fd, &mut more) != 0 {
+        tell(path);
+        return Loaded::Failed;
+    }
+    Loaded::Bytes(n)
+}
+
+// Reads a file to its end, or until the buffer is full.
+pub fn load(path: &[u8], buf: &mut [u8]) -> Loaded {
+    let fd = os::open_read(path);
+    if fd < 0 {
+        if os::errno() == libc::ENOENT {
+            return Loaded::Missing;
+        }
+        tell(path);
+        return Loaded::Failed;
+    }
+    let loaded = read_whole(fd, path, buf);
+    libc::close(fd);
+    loaded
+}
