@@ -2,7 +2,9 @@
 use crate::switch::Switch;
 use crate::switch::switch_of;
 use crate::switch::takes_value;
+ghost use mathlib.Core.Path.{_≡_};
 ghost use Prim.Native.Nat.{_≤_};
+ghost use Rattle.commandline.specs.Lines.{noted, isWord};
 
 // The place of each option's value, or of the option where it takes none; 0 where it is not given. Of two, the last counts. The words
 // of the command begin at `words`, which is the count of the arguments where there are none.
@@ -28,7 +30,9 @@ fn switch_at(at: usize) -> Switch {
 }
 
 // A line with the option at a place added; its value is the argument after it.
-fn noted(mut line: Line, switch: Switch, at: usize, value: usize) -> Line {
+fn noted(mut line: Line, switch: Switch, at: usize, value: usize) -> Line
+    ensures { λ r. ⌜ r ≡ noted line switch at value ⌝ }
+{
     match switch {
         Switch::Table => line.table = value,
         Switch::Time => line.time = value,
@@ -57,11 +61,18 @@ fn bare(count: usize) -> Line {
 }
 
 // Whether an argument is the first word of a command.
-fn is_word(switch: Switch) -> bool {
-    if let Switch::Word = switch {
-        true
-    } else {
-        false
+fn is_word(switch: Switch) -> bool
+    ensures { λ r. ⌜ r ≡ isWord switch ⌝ }
+{
+    match switch {
+        Switch::Table => false,
+        Switch::Time => false,
+        Switch::Init => false,
+        Switch::List => false,
+        Switch::Help => false,
+        Switch::Status => false,
+        Switch::Unknown => false,
+        Switch::Word => true,
     }
 }
 

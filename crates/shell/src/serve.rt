@@ -3,10 +3,9 @@
 use crate::SPACE;
 use crate::exchange::Exchange;
 use crate::exchange::carry_out;
-use crate::tell::DONE;
-use crate::tell::ERROR;
 use crate::tell::REFUSED;
 use crate::tell::refuse_call;
+use crate::tell::status_of;
 use access::Answer;
 use tablefile::Loaded;
 use tablefile::begin;
@@ -15,6 +14,8 @@ use tablefile::finish;
 use tablefile::load;
 use terminal::print;
 use terminal::print_reply;
+ghost use mathlib.Core.Path.{_≡_};
+ghost use Rattle.shell.specs.Status.{statusOf};
 
 // The bytes of a new table's 16 empty records.
 const NEW_SIZE: usize = 2048;
@@ -94,16 +95,17 @@ fn print_as(raw: bool, reply: &[u8]) {
 }
 
 // Prints an answer's reply, or what its refusal stands for, and gives back the exit status.
-fn show(answer: Answer, buffer: &[u8; 128], raw: bool, path: &[u8]) -> u64 {
+fn show(answer: Answer, buffer: &[u8; 128], raw: bool, path: &[u8]) -> u64
+    ensures { λ r. ⌜ r ≡ statusOf (answer .number) ⌝ }
+{
     let reply: &[u8] = buffer;
     let len = answer.len;
     if len == 0 {
-        return refuse_call(answer.number, path);
-    }
-    if len <= reply.len() {
+        refuse_call(answer.number, path);
+    } else if len <= reply.len() {
         print_as(raw, &reply[0..len]);
     }
-    if answer.number == 0 { DONE } else { ERROR }
+    status_of(answer.number)
 }
 
 // Replaces the table by the first `size` bytes of a buffer if it is to be written; gives back whether all went well.

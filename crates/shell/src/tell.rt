@@ -1,6 +1,8 @@
 // What is told: the usage, and one line for each refusal. The exit statuses.
 use terminal::complain;
 use terminal::print;
+ghost use mathlib.Core.Path.{_≡_};
+ghost use Rattle.shell.specs.Status.{statusOf};
 
 // Answered.
 pub const DONE: u64 = 0;
@@ -10,6 +12,20 @@ pub const ERROR: u64 = 1;
 
 // Refused, with a line on standard error.
 pub const REFUSED: u64 = 2;
+
+// The exit status of an answer by its number.
+pub fn status_of(number: u32) -> u64
+    ensures { λ r. ⌜ r ≡ statusOf number ⌝ }
+{
+    if number == 0 {
+        return DONE;
+    }
+    let has_reply = (5 <= number) & (number <= 17);
+    if has_reply {
+        return ERROR;
+    }
+    REFUSED
+}
 
 // Prints the usage.
 pub fn usage() -> u64 {
