@@ -1,13 +1,17 @@
-// The bench sheet of document 01 and the sessions of documents 000 and 001, run against the store
-// and printed as the documents print them. The file stdout is copied from the documents.
-mod bench;
+// The bench sheet of document 01 and the sessions of documents 000 and 001, run against the store and printed as the documents print them. The
+// file stdin has the headings and commands. The file stdout has the replies that the documents print; the lines after a row of document 01,
+// `version N`, `number N`, `table as before` and `128 zeros`, say in one form what its columns and "Also" lines say.
+
 mod compose;
-mod documents;
+mod heading;
+mod outcome;
+mod play;
 mod session;
 
+use libc::STDIN_FILENO;
+
 fn main() {
-    let mut one = [0u8; 128];
-    bench::run_all(&mut one);
-    let mut two = [0u8; 256];
-    documents::run_all(&mut two);
+    let mut script = io::buffer();
+    let n = io::read_full(STDIN_FILENO, &mut script);
+    play::play_first(&script, n);
 }
