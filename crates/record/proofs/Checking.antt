@@ -182,3 +182,6 @@ isRecord-head b n = not-eq-not .0 (λ e. never (isHead b) (is-isHead b (head-is 
 
 pub in-use-head : (b : List ℕ) → InUse b → HeadIs b
 in-use-head b h = head-is b (in-use-record b h)
+
+pub in-use-key : (b : List ℕ) → InUse b → part 24 24 b ≡ padded 24 (fields b .key)
+in-use-key b h = key-part b (in-use-record b h)

@@ -7,11 +7,13 @@ use mathlib.Core.Bool.{true, false}
 use mathlib.Core.List.{List}
 use mathlib.Core.Option.{Option, some, Option·getD}
 use lib.ListN.{length, take, drop, getD}
+use Rattle.model.specs.Bytes.{part, padded}
 use Rattle.model.specs.Table.{Slot, empty, used, isEmpty, fields, form128, readTable, readSlot, slotBytes, recordAt}
 use Rattle.model.specs.Command.{isSome}
 use Rattle.model.proofs.Records.{in-use-readSlot}
 use Rattle.slice.proofs.Written.{length-part, part-is}
 use Rattle.record.specs.Record.{slotOf, Readable, InUse}
+use Rattle.record.proofs.Checking.{in-use-key}
 use Rattle.table.specs.Slots.{slotsOf}
 use Rattle.table.proofs.Records.{table-length, slot-bytes, slot-at}
 
@@ -51,3 +53,7 @@ module _ (t : List ℕ) (ok : isSome (readTable form128 t) ≡ true) where
 
       pub lent-in-use : InUse (lent i t)
       lent-in-use = record { size = size; read = read ∙ ap {B = Option Slot} some slot-used }
+
+      -- the key with the zeros after it
+      pub lent-key : part 24 24 (lent i t) ≡ padded 24 (fields (lent i t) .key)
+      lent-key = in-use-key (lent i t) lent-in-use

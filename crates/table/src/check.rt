@@ -5,6 +5,8 @@ use crate::filter;
 use crate::lookup;
 ghost use mathlib.Core.Path.{_≡_};
 ghost use mathlib.Core.Bool.{true};
+ghost use Prim.Native.Nat.{_≤_};
+ghost use lib.ListN.{length};
 ghost use Rattle.model.specs.Table.{form128, readTable, distinct};
 ghost use Rattle.model.specs.Command.{isSome};
 ghost use Rattle.table.specs.Slots.{slotsOf};
@@ -34,27 +36,40 @@ pub fn records_ok(table: &[u8]) -> bool
     true
 }
 
-// Whether no two records in use have equal keys. Slots are passed from the last one down; the filter has an entry set for the hash of each
-// key passed, and only a key whose entry is set is compared with those.
+// Whether no two records in use have equal keys. The filter is as large as the table asks, since it costs time to make.
 pub fn keys_ok(table: &[u8]) -> bool
     requires { ⌜ isSome (readTable form128 (now table)) ≡ true ⌝ }
     ensures { λ ok. ⌜ ok ≡ distinct (slotsOf (now (table .entry))) ⌝ }
 {
-    let mut seen = [false; filter::ENTRIES];
+    let n = table.len() / RECORD_SIZE;
+    if n < 2 {
+        return true;
+    }
+    if n <= 16 {
+        let mut seen = [0; 128];
+        return keys_differ(table, &mut seen);
+    }
+    let mut seen = [0; 2048];
+    keys_differ(table, &mut seen)
+}
+
+// The same by a filter. Slots are passed from the last one down, and only a key that the filter may hold is compared with those passed.
+fn keys_differ(table: &[u8], seen: &mut [u8]) -> bool
+    requires { ⌜ isSome (readTable form128 (now table)) ≡ true ⌝ }
+    requires { ⌜ 1 ≤ length (now seen) ⌝ }
+    ensures { λ ok. ⌜ ok ≡ distinct (slotsOf (now (table .entry))) ⌝ }
+{
     let mut next = table.len() / RECORD_SIZE;
     while 0 < next {
         let i = next - 1;
         let from = i * RECORD_SIZE;
         let r = &table[from..from + RECORD_SIZE];
         if record::in_use(r) {
-            let key = record::key(r);
-            let h = filter::hash(key);
-            if seen[h] {
-                let Found::Nothing = lookup::find_from(table, next, key) else {
+            let n = filter::spread(&r[24..48]);
+            if filter::add(seen, n) {
+                let Found::Nothing = lookup::find_from(table, next, record::key(r)) else {
                     return false;
                 };
-            } else {
-                seen[h] = true;
             }
         }
         next = i;
