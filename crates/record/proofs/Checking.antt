@@ -10,6 +10,7 @@ use borrow.Author.Tests.{ltb-true, leb-true, eqb-true, le-leb, lt-ltb, eq-eqb}
 use Rattle.model.specs.Bytes.{same, part, padded}
 use Rattle.model.specs.Table.{form128, recordBytes, fields, isRecord}
 use Rattle.model.proofs.Basics.{every}
+use Rattle.slice.specs.Zeros.{zerosFrom}
 use Rattle.slice.proofs.Equal.{never, and-left, and-right, test-eq, same-true, same-refl}
 use Rattle.slice.proofs.Written.{length-part, part-add, part-is-bytes, bytesFrom}
 use Rattle.slice.proofs.LittleEndian.{Bytes, littleEndian-part, part-bound}
@@ -19,50 +20,42 @@ use Rattle.record.proofs.Reading.{IsRecord, isRecord-true, is-isRecord,
 
 -- ---- zeros after a text
 
--- what is left of the bytes from `at` to `end` after k of them, as code has it
-abbrev pub restAfter : (at end k : ℕ) → List ℕ → List ℕ
-restAfter at end k b = take (end - (at + k)) (drop (at + k) b)
-
-abbrev pub isZeros : List ℕ → Bool
-isZeros s = same s (replicate (length s) 0)
-
 module _ (at n k : ℕ) (b : List ℕ) (fits : at + n ≤ length b) (h : k ≤ n) where
-  rest-is : restAfter at (at + n) k b ≡ part (at + k) (n - k) b
-  rest-is = let e : at + n - (at + k) ≡ n - k = omega arith in ap (λ (m : ℕ). take m (drop (at + k) b)) e
-
-  length-rest : length (restAfter at (at + n) k b) ≡ n - k
-  length-rest = ap length rest-is ∙ length-part (at + k) (n - k) b (omega arith)
-
   length-text : length (part at k b) ≡ k
   length-text = length-part at k b (omega arith)
 
-  split : part at n b ≡ part at k b ++ restAfter at (at + n) k b
+  split : part at n b ≡ part at k b ++ part (at + k) (n - k) b
   split =
       let e : k + (n - k) ≡ n = omega arith in
-      ap (λ (m : ℕ). part at m b) (sym e) ∙ part-add at k (n - k) b ∙ ap (λ (l : List ℕ). part at k b ++ l) (sym rest-is)
+      ap (λ (m : ℕ). part at m b) (sym e) ∙ part-add at k (n - k) b
+
+  rest-is : drop k (part at n b) ≡ part (at + k) (n - k) b
+  rest-is = ap (drop k) split ∙ drop-at (part at k b) _ k length-text
 
   -- zeros after k bytes: the part is these k, padded
-  pub zeros-padded : isZeros (restAfter at (at + n) k b) ≡ true → part at n b ≡ padded n (part at k b)
-  zeros-padded z =
-      let zeros = same-true (restAfter at (at + n) k b) _ z in
-      split ∙ ap (λ (l : List ℕ). part at k b ++ l) (zeros ∙ ap (λ (m : ℕ). replicate m 0) (length-rest ∙ ap (λ (m : ℕ). n - m) (sym length-text)))
+  zerosFrom-rest : zerosFrom k (part at n b) ≡ same (part (at + k) (n - k) b) (replicate (n - k) 0)
+  zerosFrom-rest = rw (rest-is, length-part at n b fits)
 
-  pub padded-zeros : part at n b ≡ padded n (part at k b) → isZeros (restAfter at (at + n) k b) ≡ true
+  pub zeros-padded : zerosFrom k (part at n b) ≡ true → part at n b ≡ padded n (part at k b)
+  zeros-padded z =
+      let zeros = same-true (part (at + k) (n - k) b) (replicate (n - k) 0) (sym zerosFrom-rest ∙ z) in
+      split ∙ rw (zeros, length-text)
+
+  pub padded-zeros : part at n b ≡ padded n (part at k b) → zerosFrom k (part at n b) ≡ true
   padded-zeros e =
       let l = length-text in
-      let zeros : restAfter at (at + n) k b ≡ replicate (n - length (part at k b)) 0 =
-      sym (drop-at (part at k b) _ k l) ∙ ap (drop k) (sym split ∙ e) ∙ drop-at (part at k b) _ k l in
-      let count : length (restAfter at (at + n) k b) ≡ n - length (part at k b) = omega (arith, length-rest) in
-      rw (count, zeros) (same-refl (replicate (n - length (part at k b)) 0))
+      let zeros : part (at + k) (n - k) b ≡ replicate (n - length (part at k b)) 0 =
+      sym rest-is ∙ ap (drop k) e ∙ drop-at (part at k b) _ k l in
+      zerosFrom-rest ∙ rw (zeros, l) (same-refl (replicate (n - k) 0))
 
 -- ---- the tests of a record in use
 
--- the bytes after the key and after the value, which must be zeros
-abbrev pub keyRest : List ℕ → List ℕ
-keyRest b = restAfter 24 48 (getD b 1 0) b
+-- whether the bytes after the key and after the value are zeros
+abbrev pub keyPadded : List ℕ → Bool
+keyPadded b = zerosFrom (getD b 1 0) (part 24 24 b)
 
-abbrev pub valueRest : List ℕ → List ℕ
-valueRest b = restAfter 48 128 (getD b 2 0) b
+abbrev pub valuePadded : List ℕ → Bool
+valuePadded b = zerosFrom (getD b 2 0) (part 48 80 b)
 
 pub record HeadIs (b : List ℕ) : Type 0 where
   pub first : getD b 0 0 ≡ 1
@@ -133,7 +126,7 @@ module _ (b : List ℕ) (h : IsRecord b) where
 
 module _ (b : List ℕ) (size : length b ≡ 128) where
   -- the tests from left to right
-  forward : IsRecord b → isZeros (keyRest b) && isZeros (valueRest b) ≡ true
+  forward : IsRecord b → keyPadded b && valuePadded b ≡ true
   forward h =
       let hd = head-is b h in
       rw (padded-zeros 24 24 (getD b 1 0) b (omega arith) (hd .key-to) (key-part b h), padded-zeros 48 80 (getD b 2 0) b (omega arith) (omega arith) (value-part b h))
@@ -167,14 +160,14 @@ module _ (b : List ℕ) (size : length b ≡ 128) where
     whole : part 0 24 b ++ part 24 24 b ++ part 48 80 b ≡ b
     whole = ap (λ (l : List ℕ). l ++ part 48 80 b) (sym (part-add 0 24 24 b)) ∙ sym (part-add 0 48 80 b) ∙ take-all 128 b (omega arith)
 
-    backward : isZeros (keyRest b) && isZeros (valueRest b) ≡ true → IsRecord b
+    backward : keyPadded b && valuePadded b ≡ true → IsRecord b
     backward z =
-        let k = zeros-padded 24 24 (getD b 1 0) b (omega arith) (hd .key-to) (and-left (isZeros (keyRest b)) _ z) in
-        let v = zeros-padded 48 80 (getD b 2 0) b (omega arith) (omega (arith, hd .value-to)) (and-right (isZeros (keyRest b)) _ z) in
+        let k = zeros-padded 24 24 (getD b 1 0) b (omega arith) (hd .key-to) (and-left (keyPadded b) (valuePadded b) z) in
+        let v = zeros-padded 48 80 (getD b 2 0) b (omega arith) (omega (arith, hd .value-to)) (and-right (keyPadded b) (valuePadded b) z) in
         record { kept = range-is; bytes = rw (pieces (fields b) (range-is .value-to), head-part, ← k, ← v) whole }
 
-    pub isRecord-rests : isRecord form128 b ≡ isZeros (keyRest b) && isZeros (valueRest b)
-    isRecord-rests = test-eq _ _ (λ e. forward (isRecord-true b e)) (λ z. is-isRecord b (backward z))
+    pub isRecord-padded : isRecord form128 b ≡ keyPadded b && valuePadded b
+    isRecord-padded = test-eq _ _ (λ e. forward (isRecord-true b e)) (λ z. is-isRecord b (backward z))
 
 -- bytes 0 to 23 alone refuse it
 pub isRecord-head : (b : List ℕ) → isHead b ≡ false → isRecord form128 b ≡ false

@@ -28,10 +28,8 @@ fn is_record(r: &[u8]) -> bool
     if !is_head(r) {
         return false;
     }
-    let key_end = 24 + r[1] as usize;
-    let value_end = 48 + r[2] as usize;
-    let key_padded = slice::is_zero(&r[key_end..48]);
-    let value_padded = slice::is_zero(&r[value_end..128]);
+    let key_padded = slice::is_zero_from(&r[24..48], r[1] as usize);
+    let value_padded = slice::is_zero_from(&r[48..128], r[2] as usize);
     key_padded & value_padded
 }
 

@@ -2,7 +2,8 @@
 use mathlib.Core.Path.{sym, _∙_}
 use native.Mathlib.Omega.{arith}
 use borrow.Author.Tests.{not-true, not-false}
-use Rattle.record.proofs.Checking.{HeadIs, isHead-true, isRecord-head, isRecord-rests}
+use Rattle.slice.proofs.Written.{length-part}
+use Rattle.record.proofs.Checking.{HeadIs, isHead-true, isRecord-head, isRecord-padded}
 use borrow.Author.Needs.{needs}
 use Rattle.record.proofs.is_record.Statement.{statement}
 use Rattle.record.proofs.is_record.Tie as tie
@@ -16,55 +17,57 @@ is-head-requires c κs = search needs
 returns : tie.Need-returns
 returns c = sym (isRecord-head (c .before .before .before .args .r .now) (sym (c .before .is-head .ensures) ∙ not-true _ (c .if1 .taken)))
 
-shared-slice-read-key-end : tie.Need-shared-slice-read-key-end
-shared-slice-read-key-end c = search needs
+sub-is-zero-from : tie.Need-sub-is-zero-from
+sub-is-zero-from c = search needs
 
-cast-key-end : tie.Need-cast-key-end
-cast-key-end c = let h = passed (c .before) in omega arith
+part-is-zero-from-start : tie.Need-part-is-zero-from-start
+part-is-zero-from-start c = search needs
 
-add-key-end : tie.Need-add-key-end
-add-key-end c = let h = passed (c .before) in omega arith
+part-is-zero-from-end : tie.Need-part-is-zero-from-end
+part-is-zero-from-end c = search needs
 
-shared-slice-read-value-end : tie.Need-shared-slice-read-value-end
-shared-slice-read-value-end c = search needs
+shared-slice-read-is-zero-from : tie.Need-shared-slice-read-is-zero-from
+shared-slice-read-is-zero-from c = search needs
 
-cast-value-end : tie.Need-cast-value-end
-cast-value-end c = let h = passed (c .before .before) in omega arith
+cast-is-zero-from : tie.Need-cast-is-zero-from
+cast-is-zero-from c = let h = passed (c .before .before) in omega arith
 
-add-value-end : tie.Need-add-value-end
-add-value-end c = let h = passed (c .before .before) in omega arith
+is-zero-from-requires : tie.Need-is-zero-from-requires
+is-zero-from-requires c κs =
+    let e = c .before .before in
+    let s = e .before .before .before in
+    let h = passed e in
+    (omega arith, omega (arith, length-part 24 24 (s .args .r .now) (omega (arith, s .pre))))
 
-sub-is-zero : tie.Need-sub-is-zero
-sub-is-zero c = let h = passed (c .before .before) in omega arith
+sub-is-zero-from-2 : tie.Need-sub-is-zero-from-2
+sub-is-zero-from-2 c = search needs
 
-part-is-zero-start : tie.Need-part-is-zero-start
-part-is-zero-start c = let h = passed (c .before .before) in omega arith
+part-is-zero-from-start-2 : tie.Need-part-is-zero-from-start-2
+part-is-zero-from-start-2 c = search needs
 
-part-is-zero-end : tie.Need-part-is-zero-end
-part-is-zero-end c = search needs
+part-is-zero-from-end-2 : tie.Need-part-is-zero-from-end-2
+part-is-zero-from-end-2 c = search needs
 
-is-zero-requires : tie.Need-is-zero-requires
-is-zero-requires c κs = search needs
+shared-slice-read-is-zero-from-2 : tie.Need-shared-slice-read-is-zero-from-2
+shared-slice-read-is-zero-from-2 c = search needs
 
-sub-is-zero-2 : tie.Need-sub-is-zero-2
-sub-is-zero-2 c = let h = passed (c .before .before .before .before) in omega arith
+cast-is-zero-from-2 : tie.Need-cast-is-zero-from-2
+cast-is-zero-from-2 c = let h = passed (c .before .before .before .before .before) in omega arith
 
-part-is-zero-start-2 : tie.Need-part-is-zero-start-2
-part-is-zero-start-2 c = let h = passed (c .before .before .before .before) in omega arith
-
-part-is-zero-end-2 : tie.Need-part-is-zero-end-2
-part-is-zero-end-2 c = search needs
-
-is-zero-requires-2 : tie.Need-is-zero-requires-2
-is-zero-requires-2 c κs = search needs
+is-zero-from-requires-2 : tie.Need-is-zero-from-requires-2
+is-zero-from-requires-2 c κs =
+    let e = c .before .before .before .before .before in
+    let s = e .before .before .before in
+    let h = passed e in
+    (omega arith, omega (arith, length-part 48 80 (s .args .r .now) (omega (arith, s .pre))))
 
 returns-2 : tie.Need-returns-2
 returns-2 c =
     let e = c .before .before .before .before .before .before in
     let s = e .before .before .before in
     let b = s .args .r .now in
-    rw (c .before .before .is-zero .ensures, c .is-zero2 .ensures)
-    (sym (isRecord-rests b (s .pre) (λ i. e .before .before .shared-slice-known .given i .fits) (passed e)))
+    rw (c .before .before .before .is-zero-from .ensures, c .is-zero-from2 .ensures)
+    (sym (isRecord-padded b (s .pre) (λ i. e .before .before .shared-slice-known .given i .fits) (passed e)))
 
 pub is-record-spec : {M : Type 1} → statement M
 is-record-spec =
@@ -72,18 +75,16 @@ is-record-spec =
     (tie.spec
     is-head-requires
     returns
-    shared-slice-read-key-end
-    cast-key-end
-    add-key-end
-    shared-slice-read-value-end
-    cast-value-end
-    add-value-end
-    sub-is-zero
-    part-is-zero-start
-    part-is-zero-end
-    is-zero-requires
-    sub-is-zero-2
-    part-is-zero-start-2
-    part-is-zero-end-2
-    is-zero-requires-2
+    sub-is-zero-from
+    part-is-zero-from-start
+    part-is-zero-from-end
+    shared-slice-read-is-zero-from
+    cast-is-zero-from
+    is-zero-from-requires
+    sub-is-zero-from-2
+    part-is-zero-from-start-2
+    part-is-zero-from-end-2
+    shared-slice-read-is-zero-from-2
+    cast-is-zero-from-2
+    is-zero-from-requires-2
     returns-2)
