@@ -7,29 +7,30 @@ ghost use lib.ListN.{length, replicate};
 ghost use Rattle.model.specs.Bytes.{written, littleEndian};
 ghost use Rattle.model.specs.Table.{form128, keyLimit, versionAt, expiryAt, readSlot, recordBytes, isRecord, fields, holds, isEmpty, live};
 ghost use Rattle.model.specs.Command.{isSome};
+ghost use Rattle.slice.specs.Zeros.{zerosThenOnes};
 ghost use Rattle.record.specs.Record.{slotOf, Readable, InUse, withValue, head, isHead};
 
-// Whether the bytes are a record, empty or in use.
-pub fn readable(r: &[u8]) -> bool
-    requires { ⌜ length (now r) ≡ 128 ⌝ }
+// Whether the bytes are a record, empty or in use. The mask is slice's.
+pub fn readable(r: &[u8], mask: &[u8; 144]) -> bool
+    requires { ⌜ (length (now r) ≡ 128) × (now mask ≡ zerosThenOnes) ⌝ }
     ensures { λ b. ⌜ b ≡ isSome (readSlot form128 (now (r .entry))) ⌝ }
 {
     if r[0] == 0 {
         return slice::is_zero(r);
     }
-    is_record(r)
+    is_record(r, mask)
 }
 
 // Whether the bytes are a record in use.
-fn is_record(r: &[u8]) -> bool
-    requires { ⌜ length (now r) ≡ 128 ⌝ }
+fn is_record(r: &[u8], mask: &[u8; 144]) -> bool
+    requires { ⌜ (length (now r) ≡ 128) × (now mask ≡ zerosThenOnes) ⌝ }
     ensures { λ b. ⌜ b ≡ isRecord form128 (now (r .entry)) ⌝ }
 {
     if !is_head(r) {
         return false;
     }
-    let key_padded = slice::is_zero_from(&r[24..48], r[1] as usize);
-    let value_padded = slice::is_zero_from(&r[48..128], r[2] as usize);
+    let key_padded = slice::is_zero_from(&r[24..48], r[1] as usize, mask);
+    let value_padded = slice::is_zero_from(&r[48..128], r[2] as usize, mask);
     key_padded & value_padded
 }
 

@@ -3,14 +3,14 @@ use Prim.Native.Nat.{ℕ, zero, suc, _+_, _-_, _≤_, _<_}
 use native.Mathlib.Numerals.{add-one}
 use native.Mathlib.Omega.{arith}
 use mathlib.Core.Path.{_≡_, refl, ap, _∙_}
-use mathlib.Core.List.{List, _++_}
+use mathlib.Core.List.{List}
 use mathlib.Core.Bool.{Bool, true, false, _&&_, and-true, and-assoc}
 use lib.Bits.{bitAnd, bitOr, or-zero-l, or-zero-r, or-add-and, and-le-r, and-zero-r, and-mask}
 use lib.Dec.{eqb, ltb, eqb·suc-zero}
 use lib.ListN.{length, drop, getD, replicate, drop-of-length-le, List·getD-append, getD-replicate}
 use lib.Seq.{drop-cons, getD-append-add}
 use borrow.Author.Tests.{ne-eqb, ltb-true, ltb-false}
-use Rattle.slice.specs.Zeros.{zerosFrom}
+use Rattle.slice.specs.Zeros.{zerosFrom, zerosThenOnes}
 
 or-is-zero : (x y : ℕ) → eqb (bitOr x y) 0 ≡ eqb x 0 && eqb y 0
 or-is-zero zero y = rw (or-zero-l y)
@@ -32,13 +32,10 @@ none-left s x i h =
 
 -- ---- the bytes before place n are masked
 
-abbrev pub mask : List ℕ
-mask = replicate 64 0 ++ replicate 80 255
-
-mask-zero : (j : ℕ) → j < 64 → getD mask j 0 ≡ 0
+mask-zero : (j : ℕ) → j < 64 → getD zerosThenOnes j 0 ≡ 0
 mask-zero j h = List·getD-append (replicate 64 0) (replicate 80 255) 0 j h ∙ getD-replicate 64 j 0 0 h
 
-mask-ones : (j : ℕ) → j < 80 → getD mask (64 + j) 0 ≡ 255
+mask-ones : (j : ℕ) → j < 80 → getD zerosThenOnes (64 + j) 0 ≡ 255
 mask-ones j h = getD-append-add (replicate 64 0) (replicate 80 255) j 0 ∙ getD-replicate 80 j 255 0 h
 
 -- the later of the places i and n
@@ -47,18 +44,18 @@ later i n = i + (n - i)
 
 module _ (s : List ℕ) (x n i : ℕ) (h : i < length s) (byte : getD s i 0 < 256) (within : n ≤ 64) (fits : length s ≤ 80) where
   -- one byte that does not count, and one that does
-  before : i < n → bitOr x (bitAnd (getD s i 0) (getD mask (64 - n + i) 0)) ≡ x
+  before : i < n → bitOr x (bitAnd (getD s i 0) (getD zerosThenOnes (64 - n + i) 0)) ≡ x
   before l = rw (mask-zero (64 - n + i) (omega arith), and-zero-r (getD s i 0), or-zero-r x)
 
-  after : n ≤ i → bitAnd (getD s i 0) (getD mask (64 - n + i) 0) ≡ getD s i 0
+  after : n ≤ i → bitAnd (getD s i 0) (getD zerosThenOnes (64 - n + i) 0) ≡ getD s i 0
   after l =
       let j : 64 - n + i ≡ 64 + (i - n) = omega arith in
       rw (j, mask-ones (i - n) (omega arith)) (and-mask (getD s i 0) 8 ∙ omega arith)
 
-  pub one-masked : zerosLeft x (later i n) s ≡ zerosLeft (bitOr x (bitAnd (getD s i 0) (getD mask (64 - n + i) 0))) (later (i + 1) n) s
+  pub one-masked : zerosLeft x (later i n) s ≡ zerosLeft (bitOr x (bitAnd (getD s i 0) (getD zerosThenOnes (64 - n + i) 0))) (later (i + 1) n) s
   one-masked = go (ltb i n) refl
     where
-      go : (b : Bool) → ltb i n ≡ b → zerosLeft x (later i n) s ≡ zerosLeft (bitOr x (bitAnd (getD s i 0) (getD mask (64 - n + i) 0))) (later (i + 1) n) s
+      go : (b : Bool) → ltb i n ≡ b → zerosLeft x (later i n) s ≡ zerosLeft (bitOr x (bitAnd (getD s i 0) (getD zerosThenOnes (64 - n + i) 0))) (later (i + 1) n) s
       go true e =
           let l = ltb-true i n e in
           let p : later (i + 1) n ≡ later i n = omega arith in

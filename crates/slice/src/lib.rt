@@ -2,7 +2,7 @@
 ghost use mathlib.Core.Path.{_≡_};
 ghost use Prim.Native.Nat.{_+_, _≤_, _<_};
 ghost use lib.ListN.{length, take, replicate};
-ghost use Rattle.slice.specs.Zeros.{zerosFrom};
+ghost use Rattle.slice.specs.Zeros.{zerosFrom, zerosThenOnes};
 ghost use Rattle.model.specs.Bytes.{same, part, padded, written, littleEndian, fromLittleEndian};
 
 // Whether two slices hold the same bytes.
@@ -36,7 +36,7 @@ pub fn is_zero(s: &[u8]) -> bool
 }
 
 // A mask of 64 zeros, then 80 bytes of ones.
-const MASK: [u8; 144] = [
+pub const MASK: [u8; 144] = [
     0, 0, 0, 0, 0, 0, 0, 0, 0, 0, 0, 0, 0, 0, 0, 0,
     0, 0, 0, 0, 0, 0, 0, 0, 0, 0, 0, 0, 0, 0, 0, 0,
     0, 0, 0, 0, 0, 0, 0, 0, 0, 0, 0, 0, 0, 0, 0, 0,
@@ -49,16 +49,16 @@ const MASK: [u8; 144] = [
 ];
 
 // Whether every byte from place `n` on is zero. The bytes before it are masked and not left out, so that where the length of `s` is known
-// the loop takes wide loads, whatever `n` is.
-pub fn is_zero_from(s: &[u8], n: usize) -> bool
-    requires { ⌜ (n ≤ 64) × (length (now s) ≤ 80) ⌝ }
+// the loop takes wide loads, whatever `n` is. The mask is lent, since a constant is built anew by each function that names it.
+pub fn is_zero_from(s: &[u8], n: usize, mask: &[u8; 144]) -> bool
+    requires { ⌜ (n ≤ 64) × (length (now s) ≤ 80) × (now mask ≡ zerosThenOnes) ⌝ }
     ensures { λ r. ⌜ r ≡ zerosFrom n (now (s .entry)) ⌝ }
 {
     let start = 64 - n;
     let mut bits: u8 = 0;
     let mut i = 0;
     while i < s.len() {
-        bits = bits | (s[i] & MASK[start + i]);
+        bits = bits | (s[i] & mask[start + i]);
         i += 1;
     }
     bits == 0

@@ -28,7 +28,7 @@ pub fn records_ok(table: &[u8]) -> bool
     let mut i = 0;
     while i < n {
         let from = i * RECORD_SIZE;
-        if !record::readable(&table[from..from + RECORD_SIZE]) {
+        if !record::readable(&table[from..from + RECORD_SIZE], &slice::MASK) {
             return false;
         }
         i += 1;

@@ -37,7 +37,7 @@ is-zero-from-requires c κs =
     let e = c .before .before in
     let s = e .before .before .before in
     let h = passed e in
-    (omega arith, omega (arith, length-part 24 24 (s .args .r .now) (omega (arith, s .pre))))
+    (omega arith, omega (arith, length-part 24 24 (s .args .r .now) (omega (arith, s .pre .0))), s .pre .1)
 
 sub-is-zero-from-2 : tie.Need-sub-is-zero-from-2
 sub-is-zero-from-2 c = search needs
@@ -59,7 +59,7 @@ is-zero-from-requires-2 c κs =
     let e = c .before .before .before .before .before in
     let s = e .before .before .before in
     let h = passed e in
-    (omega arith, omega (arith, length-part 48 80 (s .args .r .now) (omega (arith, s .pre))))
+    (omega arith, omega (arith, length-part 48 80 (s .args .r .now) (omega (arith, s .pre .0))), s .pre .1)
 
 returns-2 : tie.Need-returns-2
 returns-2 c =
@@ -67,7 +67,7 @@ returns-2 c =
     let s = e .before .before .before in
     let b = s .args .r .now in
     rw (c .before .before .before .is-zero-from .ensures, c .is-zero-from2 .ensures)
-    (sym (isRecord-padded b (s .pre) (λ i. e .before .before .shared-slice-known .given i .fits) (passed e)))
+    (sym (isRecord-padded b (s .pre .0) (λ i. e .before .before .shared-slice-known .given i .fits) (passed e)))
 
 pub is-record-spec : {M : Type 1} → statement M
 is-record-spec =

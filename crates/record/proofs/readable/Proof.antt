@@ -18,7 +18,7 @@ returns : tie.Need-returns
 returns c =
     let s = c .before .before .before .before in
     let b = s .args .r .now in
-    c .is-zero .ensures ∙ ap (λ (n : ℕ). same b (replicate n 0)) (s .pre) ∙ sym (readable-zero b (c .before .if1 .taken))
+    c .is-zero .ensures ∙ ap (λ (n : ℕ). same b (replicate n 0)) (s .pre .0) ∙ sym (readable-zero b (c .before .if1 .taken))
 
 is-record-requires : tie.Need-is-record-requires
 is-record-requires c κs = search needs

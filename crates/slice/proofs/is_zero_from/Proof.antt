@@ -11,10 +11,10 @@ use Rattle.slice.proofs.is_zero_from.Statement.{statement}
 use Rattle.slice.proofs.is_zero_from.Tie as tie
 
 abbrev Inv-loop : tie.InvT-loop
-Inv-loop s n start bits₀ i₀ bits i = (i ≤ length s) × (zerosFrom n s ≡ zerosLeft bits (later i n) s)
+Inv-loop s n mask start bits₀ i₀ bits i = (i ≤ length s) × (zerosFrom n s ≡ zerosLeft bits (later i n) s)
 
 abbrev μ-loop : tie.MeasureT-loop
-μ-loop s n start bits₀ i₀ bits i = length s - i
+μ-loop s n mask start bits₀ i₀ bits i = length s - i
 
 sub-start : tie.Need-sub-start Inv-loop μ-loop
 sub-start c = search needs
@@ -28,8 +28,8 @@ shared-slice-read-bits c = search needs
 add-bits : tie.Need-add-bits Inv-loop μ-loop
 add-bits c = search needs
 
-array-read-bits : tie.Need-array-read-bits Inv-loop μ-loop
-array-read-bits c = search needs
+element-copy-out-bits : tie.Need-element-copy-out-bits Inv-loop μ-loop
+element-copy-out-bits c = search needs
 
 add-i : tie.Need-add-i Inv-loop μ-loop
 add-i c = search needs
@@ -39,11 +39,12 @@ loop-less c = search needs
 
 loop-again : tie.Need-loop-again Inv-loop μ-loop
 loop-again c =
-    let l = c .before .before in
+    let l = c .before .before .before in
     let a = l .before .args in
+    let pre = l .before .pre in
     let i = l .loop .i in
-    let byte = c .shared-slice-known .given i .fits in
-    (omega arith, l .loop .inv .1 ∙ one-masked (a .s .now) (l .loop .bits) (a .n) i (omega arith) byte (l .before .pre .0) (l .before .pre .1))
+    let byte = c .before .shared-slice-known .given i .fits in
+    (omega arith, l .loop .inv .1 ∙ rw (pre .2) (one-masked (a .s .now) (l .loop .bits) (a .n) i (omega arith) byte (pre .0) (pre .1)))
 
 returns : tie.Need-returns Inv-loop μ-loop
 returns c =
@@ -60,7 +61,7 @@ is-zero-from-spec =
     loop-holds
     shared-slice-read-bits
     add-bits
-    array-read-bits
+    element-copy-out-bits
     add-i
     loop-less
     loop-again

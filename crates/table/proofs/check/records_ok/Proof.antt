@@ -15,10 +15,10 @@ use Rattle.table.proofs.check.records_ok.Statement.{statement}
 use Rattle.table.proofs.check.records_ok.Tie as tie
 
 abbrev Inv-loop : tie.InvT-loop
-Inv-loop table n i₀ i = (i ≤ n) × (n ≡ length table / 128) × (isSome (readTable form128 table) ≡ readFrom form128 n i table)
+Inv-loop table n i₀ mask i = (i ≤ n) × (n ≡ length table / 128) × (isSome (readTable form128 table) ≡ readFrom form128 n i table)
 
 abbrev μ-loop : tie.MeasureT-loop
-μ-loop table n i₀ i = n - i
+μ-loop table n i₀ mask i = n - i
 
 returns : tie.Need-returns Inv-loop μ-loop
 returns c = sym (read-table form128 (c .before .before .args .table .now) ∙ rw (ne-eqb _ _ (c .if1 .taken)))
@@ -58,16 +58,16 @@ part-readable-end c = search needs
 
 readable-requires : tie.Need-readable-requires Inv-loop μ-loop
 readable-requires c κs =
-    let l = c .before .before in
-    lent-length (l .loop .i) (l .before .before .before .before .before .args .table .now) (omega arith)
+    let l = c .before .before .before in
+    (lent-length (l .loop .i) (l .before .before .before .before .before .args .table .now) (omega arith), refl)
 
 -- what the call said of the record, in the invariant
 told : (c : tie.After-readable Inv-loop μ-loop)
-    → let l = c .before .before .before in
+    → let l = c .before .before .before .before in
     let t = l .before .before .before .before .before .args .table .now in
     isSome (readTable form128 t) ≡ c .readable .result && readFrom form128 (length t / 128) (l .loop .i + 1) t
 told c =
-    let l = c .before .before .before in
+    let l = c .before .before .before .before in
     let t = l .before .before .before .before .before .args .table .now in
     let said : c .readable .result ≡ isSome (readSlot form128 (recordAt form128 (l .loop .i) t)) =
     c .readable .ensures ∙ ap (λ (b : List ℕ). isSome (readSlot form128 b)) (lent-is (l .loop .i) t) in
