@@ -1,14 +1,14 @@
 -- The bytes of one record, 128 of them: what a call may ask of them, and what it changes.
 use Prim.Native.Nat.{ℕ}
 use mathlib.Core.Path.{_≡_}
-use mathlib.Core.Bool.{Bool, true}
+use mathlib.Core.Bool.{Bool, true, _&&_}
 use mathlib.Core.List.{List, [], _∷_, _++_}
 use mathlib.Core.Option.{Option·getD, some}
 use lib.ListN.{length, getD}
 use lib.Dec.{leb, ltb, eqb}
-use Rattle.model.specs.Bytes.{all, littleEndian}
+use Rattle.model.specs.Bytes.{all, part, littleEndian, fromLittleEndian}
 use Rattle.model.specs.Number.{versionLimit}
-use Rattle.model.specs.Table.{form128, Record, Slot, empty, used, readSlot, fields, keyLimit, timeLimit, useAt, keyLengthAt, valueLengthAt}
+use Rattle.model.specs.Table.{form128, Record, Slot, empty, used, readSlot, fields, keyLimit, timeLimit, useAt, keyLengthAt, valueLengthAt, keyAt}
 use Rattle.model.specs.Command.{isSome}
 
 -- the slot that the bytes are; an empty one if they are none
@@ -53,3 +53,13 @@ headRules b =
 -- whether those bytes can be of a record in use
 unfoldable pub isHead : List ℕ → Bool
 isHead b = all (headRules b)
+
+-- the number in the 8 bytes at a place
+abbrev pub word : (at : ℕ) → List ℕ → ℕ
+word at s = fromLittleEndian (part at 8 s)
+
+-- whether the bytes are a record in use whose key has n bytes and is, with the zeros after it, the words a, b and c
+unfoldable pub hasWords : (n a b c : ℕ) → List ℕ → Bool
+hasWords n a b c r =
+    let key = part keyAt keyLimit r in
+    (eqb (word 0 key) a && eqb (word 8 key) b) && (eqb (word 16 key) c && (eqb (getD r keyLengthAt 0) n && eqb (getD r useAt 0) 1))

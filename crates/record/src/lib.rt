@@ -8,7 +8,7 @@ ghost use Rattle.model.specs.Bytes.{written, littleEndian};
 ghost use Rattle.model.specs.Table.{form128, keyLimit, versionAt, expiryAt, readSlot, recordBytes, isRecord, fields, holds, isEmpty, live};
 ghost use Rattle.model.specs.Command.{isSome};
 ghost use Rattle.slice.specs.Zeros.{zerosThenOnes};
-ghost use Rattle.record.specs.Record.{slotOf, Readable, InUse, withValue, head, isHead};
+ghost use Rattle.record.specs.Record.{slotOf, Readable, InUse, withValue, head, isHead, hasWords};
 
 // Whether the bytes are a record, empty or in use. The mask is slice's.
 pub fn readable(r: &[u8], mask: &[u8; 144]) -> bool
@@ -72,16 +72,17 @@ pub fn value(r: &[u8]) -> &[u8]
     &r[48..48 + n]
 }
 
-// Whether a record is in use and has the key.
-pub fn has_key(r: &[u8], key: &[u8]) -> bool
-    requires { ⌜ Readable (now r) ⌝ }
-    ensures { λ b. ⌜ b ≡ holds (now (key .entry)) (slotOf (now (r .entry))) ⌝ }
+// Whether a record is in use and has the key of `size` bytes that, with the zeros after it, is the three words.
+pub fn has_key(r: &[u8], size: u8, a: u64, b: u64, c: u64) -> bool
+    requires { ⌜ length (now r) ≡ 128 ⌝ }
+    ensures { λ t. ⌜ t ≡ hasWords size a b c (now (r .entry)) ⌝ }
 {
-    if r[0] == 0 {
+    let key = &r[24..48];
+    let first = (slice::get8(key, 0) == a) & (slice::get8(key, 8) == b);
+    if !first {
         return false;
     }
-    let n = r[1] as usize;
-    slice::same(key, &r[24..24 + n])
+    (slice::get8(key, 16) == c) & ((r[1] == size) & (r[0] == 1))
 }
 
 // The flags.

@@ -12,6 +12,7 @@ use Rattle.model.specs.Table.{Slot, empty, used, isEmpty, fields, form128, read
 use Rattle.model.specs.Command.{isSome}
 use Rattle.model.proofs.Records.{in-use-readSlot}
 use Rattle.slice.proofs.Written.{length-part, part-is}
+use Rattle.slice.proofs.LittleEndian.{Bytes, bytes-take, bytes-drop}
 use Rattle.record.specs.Record.{slotOf, Readable, InUse}
 use Rattle.record.proofs.Checking.{in-use-key}
 use Rattle.table.specs.Slots.{slotsOf}
@@ -26,6 +27,9 @@ lent-is i t = part-is (i * 128) 128 t
 
 pub lent-length : (i : ℕ) (t : List ℕ) → i * 128 + 128 ≤ length t → length (lent i t) ≡ 128
 lent-length i t h = rw (lent-is i t) (length-part (i * 128) 128 t h)
+
+pub bytes-lent : (i : ℕ) (t : List ℕ) → Bytes t → Bytes (lent i t)
+bytes-lent i t h = bytes-take (i * 128 + 128 - i * 128) (drop (i * 128) t) (bytes-drop (i * 128) t h)
 
 module _ (t : List ℕ) (ok : isSome (readTable form128 t) ≡ true) where
   pub count : length t / 128 ≡ length (slotsOf t)

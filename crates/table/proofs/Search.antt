@@ -1,6 +1,6 @@
 -- The lowest slot that passes a test, as a loop from slot 0 upward finds it: while no slot passed the test, the answer of the whole table is
 -- the answer of the slots that are left, counted from where they begin.
-use Prim.Native.Nat.{ℕ, suc, _+_, _≤_, _<_}
+use Prim.Native.Nat.{ℕ, zero, suc, _+_, _≤_, _<_}
 use native.Mathlib.Nat.{zero-add, add-zero}
 use native.Mathlib.Numerals.{add-one}
 use native.Mathlib.Omega.{arith}
@@ -12,9 +12,12 @@ use lib.ListN.{length, drop, getD, drop-of-length-le}
 use lib.Seq.{drop-cons}
 use Rattle.model.specs.Bytes.{same}
 use Rattle.model.specs.Optional.{orElse}
-use Rattle.model.specs.Table.{Slot, empty, used, Found as Hit, oneOn, findKey, holds, anyHolds, lowest, isEmpty, isExpired, slotFor}
+use Rattle.model.specs.Table.{form128, Slot, empty, used, Found as Hit, oneOn, findKey, holds, anyHolds, lowest, isEmpty, isExpired, slotFor}
 use Rattle.model.specs.Command.{isSome}
+use Rattle.model.proofs.Records.{Kept}
+use Rattle.model.proofs.Tables.{All}
 use Rattle.model.proofs.Search.{slotFor-own}
+use Rattle.slice.proofs.Equal.{other-length}
 use Rattle.table.specs.Slots.{foundFrom, keySlot, lowestFrom}
 use Rattle.table.specs.declared.Found.the-variants.{At, Nothing}
 
@@ -46,6 +49,22 @@ module _ (p : Slot → Bool) (ss : List Slot) where
     pub lowest-next : p (getD ss i empty) ≡ false → lowestFrom p ss i ≡ lowestFrom p ss (i + 1)
     unfolding lowestFrom lowest
     lowest-next e = rw (drop-cons ss i empty h, e, add-one i) (shifted-suc i (lowest p (drop (suc i) ss)))
+
+-- no record has a key longer than 24 bytes
+lowest-long : (k : List ℕ) → 24 < length k → (ss : List Slot) → All (Kept form128) ss → lowest (holds k) ss ≡ none
+unfolding lowest
+lowest-long k h [] a = refl
+lowest-long k h (empty ∷ ss) a = rw (lowest-long k h ss (a .1))
+lowest-long k h (used r ∷ ss) a = rw (other-length k (r .key) (λ e. omega (arith, a .0 .key-to)), lowest-long k h ss (a .1))
+
+all-drop : (ss : List Slot) (i : ℕ) → All (Kept form128) ss → All (Kept form128) (drop i ss)
+all-drop ss zero a = a
+all-drop [] (suc i) a = tt
+all-drop (s ∷ ss) (suc i) a = all-drop ss i (a .1)
+
+pub long-none : (k : List ℕ) (ss : List Slot) (i : ℕ) → 24 < length k → All (Kept form128) ss → lowestFrom (holds k) ss i ≡ none
+unfolding lowestFrom
+long-none k ss i h a = rw (lowest-long k h (drop i ss) (all-drop ss i a))
 
 abbrev number : Hit → ℕ
 number o = o .at

@@ -8,19 +8,39 @@ ghost use lib.ListN.{length};
 ghost use Rattle.model.specs.Optional.{orElse};
 ghost use Rattle.model.specs.Table.{form128, readTable, holds, lowest, isEmpty, isExpired, slotFor};
 ghost use Rattle.model.specs.Command.{isSome};
-ghost use Rattle.table.specs.Slots.{slotsOf, foundFrom, keySlot, lowestFrom};
+ghost use Rattle.table.specs.Slots.{slotsOf, foundFrom, keySlot, lowestFrom, WordsOf};
 
-// The lowest slot from `first` on whose record in use has the key.
+// The lowest slot from `first` on whose record in use has the key. No record has a key longer than 24 bytes; any other is compared as three
+// words, with zeros after it.
 pub fn find_from(table: &[u8], first: usize, key: &[u8]) -> Found
     requires { ⌜ isSome (readTable form128 (now table)) ≡ true ⌝ }
     requires { ⌜ first ≤ length (slotsOf (now table)) ⌝ }
     ensures { λ r. ⌜ r ≡ foundFrom (lowestFrom (holds (now (key .entry))) (slotsOf (now (table .entry))) first) ⌝ }
 {
+    if 24 < key.len() {
+        return Found::Nothing;
+    }
+    let mut padded = [0; 24];
+    slice::fill(&mut padded, key);
+    let a = slice::get8(&padded, 0);
+    let b = slice::get8(&padded, 8);
+    let c = slice::get8(&padded, 16);
+    find_words(table, first, key, a, b, c)
+}
+
+// The same for a key with its words.
+fn find_words(table: &[u8], first: usize, key: &[u8], a: u64, b: u64, c: u64) -> Found
+    requires { ⌜ isSome (readTable form128 (now table)) ≡ true ⌝ }
+    requires { ⌜ first ≤ length (slotsOf (now table)) ⌝ }
+    requires { ⌜ WordsOf (now key) a b c ⌝ }
+    ensures { λ r. ⌜ r ≡ foundFrom (lowestFrom (holds (now (key .entry))) (slotsOf (now (table .entry))) first) ⌝ }
+{
+    let size = key.len() as u8;
     let n = table.len() / RECORD_SIZE;
     let mut i = first;
     while i < n {
         let from = i * RECORD_SIZE;
-        if record::has_key(&table[from..from + RECORD_SIZE], key) {
+        if record::has_key(&table[from..from + RECORD_SIZE], size, a, b, c) {
             return Found::At(i);
         }
         i += 1;

@@ -1,66 +1,64 @@
--- `record::has_key` meets its contract. Byte 0 tells whether the record is in use; then the part at 24 is its key.
-use mathlib.Core.Path.{ap, _∙_}
-use native.Mathlib.Omega.{arith}
-use lib.ListN.{getD}
-use Rattle.model.specs.Bytes.{same}
-use Rattle.slice.proofs.Written.{part-is}
-use Rattle.record.specs.Record.{InUse}
-use Rattle.record.proofs.Reading.{slot-zero, in-use-other}
-use Rattle.record.proofs.Checking.{in-use-head}
+-- `record::has_key` meets its contract: its tests are the definition's.
+use mathlib.Core.Bool.{Bool, _&&_}
+use lib.Dec.{eqb}
+use borrow.Author.Tests.{not-true, not-false}
+use Rattle.record.specs.Record.{hasWords}
 use borrow.Author.Needs.{needs}
 use Rattle.record.proofs.has_key.Statement.{statement}
 use Rattle.record.proofs.has_key.Tie as tie
 
-is-used : (c : tie.Else1) → InUse (c .before .before .before .before .args .r .now)
-is-used c = let s = c .before .before .before .before in in-use-other (s .args .r .now) (s .pre) (c .if1 .left)
+sub-key : tie.Need-sub-key
+sub-key c = search needs
 
-shared-slice-read-if1 : tie.Need-shared-slice-read-if1
-shared-slice-read-if1 c = search needs
+part-key-start : tie.Need-part-key-start
+part-key-start c = search needs
+
+part-key-end : tie.Need-part-key-end
+part-key-end c = search needs
+
+get8-requires : tie.Need-get8-requires
+get8-requires c κs = search needs
+
+get8-requires-2 : tie.Need-get8-requires-2
+get8-requires-2 c κs = search needs
+
+-- whether the first two words are equal
+abbrev first : (c : tie.After-get82) → Bool
+first c = let a = c .before .before .before .before .args in eqb (c .before .get8 .result) (a .a) && eqb (c .get82 .result) (a .b)
 
 returns : tie.Need-returns
+unfolding hasWords
 returns c =
-    let s = c .before .before .before .before in
-    rw (slot-zero (s .args .r .now) (s .pre) (c .if1 .taken))
+    let w = c .before in
+    rw (← w .before .get8 .ensures, ← w .get82 .ensures, not-true (first w) (c .if1 .taken))
 
-shared-slice-read-n : tie.Need-shared-slice-read-n
-shared-slice-read-n c = search needs
+get8-requires-3 : tie.Need-get8-requires-3
+get8-requires-3 c κs = search needs
 
-cast-n : tie.Need-cast-n
-cast-n c = let h = in-use-head _ (is-used (c .before)) in omega arith
+shared-slice-read-result : tie.Need-shared-slice-read-result
+shared-slice-read-result c = search needs
 
-add-same : tie.Need-add-same
-add-same c = let h = in-use-head _ (is-used (c .before)) in omega arith
-
-sub-same : tie.Need-sub-same
-sub-same c = search needs
-
-part-same-start : tie.Need-part-same-start
-part-same-start c = search needs
-
-part-same-end : tie.Need-part-same-end
-part-same-end c = let h = in-use-head _ (is-used (c .before)) in omega arith
-
-same-requires : tie.Need-same-requires
-same-requires c κs = search needs
+shared-slice-read-result-2 : tie.Need-shared-slice-read-result-2
+shared-slice-read-result-2 c = search needs
 
 returns-2 : tie.Need-returns-2
+unfolding hasWords
 returns-2 c =
-    let e = c .before .before .before in
-    let a = e .before .before .before .before .args in
-    let b = a .r .now in
-    rw (is-used e .read) (c .same .ensures ∙ ap (same (a .key .now)) (part-is 24 (getD b 1 0) b))
+    let t = c .before .before in
+    let w = t .before .before in
+    rw (t .get83 .ensures, ← w .before .get8 .ensures, ← w .get82 .ensures, not-false (first w) (t .before .if1 .left))
 
 pub has-key-spec : {M : Type 1} → statement M
 has-key-spec =
     tie.close
     (tie.spec
-    shared-slice-read-if1
+    sub-key
+    part-key-start
+    part-key-end
+    get8-requires
+    get8-requires-2
     returns
-    shared-slice-read-n
-    cast-n
-    add-same
-    sub-same
-    part-same-start
-    part-same-end
-    same-requires
+    get8-requires-3
+    shared-slice-read-result
+    shared-slice-read-result-2
     returns-2)

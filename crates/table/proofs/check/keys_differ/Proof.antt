@@ -3,7 +3,7 @@
 use Prim.Native.Nat.{ℕ, _-_, _/_, _≤_}
 use native.Mathlib.Omega.{arith}
 use mathlib.Core.Path.{_≡_, refl, sym, ap, _∙_}
-use mathlib.Core.Bool.{false, not}
+use mathlib.Core.Bool.{true, false, not}
 use mathlib.Core.List.{List}
 use lib.ListN.{length, drop, getD}
 use borrow.Author.Needs.{needs}
@@ -219,7 +219,7 @@ loop-again-3 c =
     let l = c .before .before .before .before in
     let ss = slotsOf (l .before .before .before .args .table .now) in
     let next = l .loop .next in
-    let free = not-false _ (sym (told (c .before)) ∙ c .if1 .left) in
+    let free : isEmpty (getD ss (next - 1) empty) ≡ true = not-false _ (sym (told (c .before)) ∙ c .if1 .left) in
     (omega arith, l .loop .inv .1, l .loop .inv .2, passed-empty (l .loop .seen) ss (next - 1) next (omega arith) (omega arith) (l .loop .inv .3) free)
 
 same-length-2 : tie.Need-same-length-2 Inv-loop μ-loop

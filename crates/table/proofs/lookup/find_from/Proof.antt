@@ -1,102 +1,76 @@
--- `table::lookup::find_from` meets its contract. The loop's invariant: the lowest slot that holds the key is the lowest of those left.
-use Prim.Native.Nat.{_-_, _≤_}
-use native.Mathlib.Omega.{arith}
-use mathlib.Core.Path.{_≡_, refl, sym, ap, _∙_}
-use lib.ListN.{length, getD}
+-- `table::lookup::find_from` meets its contract. A long key is in no slot; of any other the buffer holds the words.
+use mathlib.Core.Path.{sym, ap, _∙_}
+use Rattle.record.specs.Record.{word}
+use Rattle.table.specs.Slots.{slotsOf, foundFrom}
+use Rattle.table.proofs.Records.{table-of}
+use Rattle.table.proofs.Search.{long-none}
 use borrow.Author.Needs.{needs}
-use Rattle.model.specs.Table.{empty, holds}
-use Rattle.table.specs.Slots.{slotsOf, foundFrom, lowestFrom}
-use Rattle.table.proofs.Search.{lowest-here, lowest-next, lowest-end}
-use Rattle.table.proofs.Parts.{count, lent-slot, lent-readable}
 use Rattle.table.proofs.lookup.find_from.Statement.{statement}
 use Rattle.table.proofs.lookup.find_from.Tie as tie
 
-abbrev Inv-loop : tie.InvT-loop
-Inv-loop table first key n i₀ i =
-    (i ≤ n) × (n ≡ length (slotsOf table)) × (lowestFrom (holds key) (slotsOf table) first ≡ lowestFrom (holds key) (slotsOf table) i)
-
-abbrev μ-loop : tie.MeasureT-loop
-μ-loop table first key n i₀ i = n - i
-
-loop-holds : tie.Need-loop-holds Inv-loop μ-loop
-loop-holds c =
-    let s = c .before .before in
-    let t = s .args .table .now in
-    (omega (arith, count t (s .pre .0), s .pre .1), count t (s .pre .0), refl)
-
-mul-from : tie.Need-mul-from Inv-loop μ-loop
-mul-from c = search needs
-
-add-has-key : tie.Need-add-has-key Inv-loop μ-loop
-add-has-key c = search needs
-
-sub-has-key : tie.Need-sub-has-key Inv-loop μ-loop
-sub-has-key c = search needs
-
-part-has-key-start : tie.Need-part-has-key-start Inv-loop μ-loop
-part-has-key-start c = search needs
-
-part-has-key-end : tie.Need-part-has-key-end Inv-loop μ-loop
-part-has-key-end c = search needs
-
-has-key-requires : tie.Need-has-key-requires Inv-loop μ-loop
-has-key-requires c κs =
-    let l = c .before .before in
-    let s = l .before .before .before in
-    lent-readable (s .args .table .now) (s .pre .0) (l .loop .i) (omega arith)
-
--- what the call said of the slot
-told : (c : tie.After-has-key Inv-loop μ-loop)
-    → c .has-key .result ≡ holds (c .before .before .before .before .before .before .args .key .now)
-    (getD (slotsOf (c .before .before .before .before .before .before .args .table .now)) (c .before .before .before .loop .i) empty)
-told c =
-    let l = c .before .before .before in
-    let s = l .before .before .before in
-    c .has-key .ensures ∙ ap (holds (s .args .key .now)) (lent-slot (s .args .table .now) (s .pre .0) (l .loop .i) (omega arith))
-
-returns : tie.Need-returns Inv-loop μ-loop
+returns : tie.Need-returns
 returns c =
-    let l = c .before .before .before .before in
-    let s = l .before .before .before in
+    let s = c .before .before .before in
     let t = s .args .table .now in
-    let k = s .args .key .now in
-    sym (ap foundFrom (l .loop .inv .2 ∙ lowest-here (holds k) (slotsOf t) (l .loop .i) (omega arith) (sym (told (c .before)) ∙ c .if1 .taken)))
+    sym (ap foundFrom (long-none (s .args .key .now) (slotsOf t) (s .args .first) (c .if1 .taken) (table-of t (s .pre .0) .kept)))
 
-add-i : tie.Need-add-i Inv-loop μ-loop
-add-i c = search needs
+slice-aggregate-fill : tie.Need-slice-aggregate-fill
+slice-aggregate-fill c = search needs
 
-loop-less : tie.Need-loop-less Inv-loop μ-loop
-loop-less c = search needs
+fill-requires : tie.Need-fill-requires
+fill-requires c κs = search needs
 
-loop-again : tie.Need-loop-again Inv-loop μ-loop
-loop-again c =
-    let l = c .before .before .before .before in
-    let s = l .before .before .before in
-    let t = s .args .table .now in
-    let k = s .args .key .now in
-    (omega arith, l .loop .inv .1, l .loop .inv .2 ∙ lowest-next (holds k) (slotsOf t) (l .loop .i) (omega arith) (sym (told (c .before)) ∙ c .if1 .left))
+slice-aggregate-get8 : tie.Need-slice-aggregate-get8
+slice-aggregate-get8 c = search needs
 
-returns-2 : tie.Need-returns-2 Inv-loop μ-loop
-returns-2 c =
-    let l = c .before in
-    let s = l .before .before .before in
-    sym (ap foundFrom (l .loop .inv .2 ∙ lowest-end (holds (s .args .key .now)) (slotsOf (s .args .table .now)) (l .loop .i) (omega arith)))
+get8-requires : tie.Need-get8-requires
+get8-requires c κs = search needs
+
+slice-aggregate-get8-2 : tie.Need-slice-aggregate-get8-2
+slice-aggregate-get8-2 c = search needs
+
+get8-requires-2 : tie.Need-get8-requires-2
+get8-requires-2 c κs = search needs
+
+slice-aggregate-get8-3 : tie.Need-slice-aggregate-get8-3
+slice-aggregate-get8-3 c = search needs
+
+get8-requires-3 : tie.Need-get8-requires-3
+get8-requires-3 c κs = search needs
+
+find-words-requires : tie.Need-find-words-requires
+find-words-requires c κs =
+    let b = c .before .before in
+    let a = b .before .before in
+    let f = a .before .before .before in
+    let s = f .before .before .before .before .before in (
+      s .pre .0,
+      (
+        s .pre .1,
+        record {
+          short = f .before .before .if1 .left;
+          low = a .get8 .ensures ∙ ap (word 0) (f .fill .ensures);
+          mid = b .get82 .ensures ∙ ap (word 8) (f .fill .ensures);
+          high = c .get83 .ensures ∙ ap (word 16) (f .fill .ensures);
+        },
+      ),
+    )
+
+returns-2 : tie.Need-returns-2
+returns-2 c = search needs
 
 pub find-from-spec : {M : Type 1} → statement M
 find-from-spec =
     tie.close
     (tie.spec
-    Inv-loop
-    μ-loop
-    loop-holds
-    mul-from
-    add-has-key
-    sub-has-key
-    part-has-key-start
-    part-has-key-end
-    has-key-requires
     returns
-    add-i
-    loop-less
-    loop-again
+    slice-aggregate-fill
+    fill-requires
+    slice-aggregate-get8
+    get8-requires
+    slice-aggregate-get8-2
+    get8-requires-2
+    slice-aggregate-get8-3
+    get8-requires-3
+    find-words-requires
     returns-2)
