@@ -2,7 +2,7 @@
 use Prim.Native.Nat.{ℕ, _<_}
 use native.Mathlib.Omega.{arith}
 use mathlib.Core.Path.{_≡_, refl, sym, ap, _∙_, subst}
-use mathlib.Core.Bool.{Bool, true, false, cond, _&&_, not}
+use mathlib.Core.Bool.{Bool, true, false, cond, _&&_}
 use mathlib.Core.List.{List, [], _∷_, map}
 use mathlib.Core.Option.{Option, none, some}
 use lib.Dec.{eqb, leb}
@@ -11,16 +11,15 @@ use lib.Seq.{getD-set-same, getD-set-other}
 use borrow.Author.Tests.{eqb-true, eqb-false, leb-true}
 use Rattle.model.specs.Bytes.{same, all}
 use Rattle.model.specs.Command as model
-use Rattle.model.specs.Command.{Kind, Name, Number, kindNo, sameKind, optRuleOf, ruleOf, takes, pick, has, isSome, admits, look, options}
+use Rattle.model.specs.Command.{Kind, Name, Number, kindNo, sameKind, optRuleOf, ruleOf, takes, pick, has, isSome, look, options}
 use Rattle.model.proofs.Basics.{never, some-eq, none-some, and-left, and-right}
 use Rattle.command.specs.Command.{bytesOf}
 use Rattle.command.specs.Words.{optFrom, spelledFrom}
-use Rattle.command.specs.declared.Span.{Span}
 use Rattle.command.specs.declared.Plain.{Plain}
 use Rattle.command.specs.declared.Opt.{Opt}
 use Rattle.command.specs.declared.Opt.the-variants as Opt
 use Rattle.command.specs.declared.Spelled.the-variants as Spelled
-use Rattle.options.specs.Options.{optOf, givenBy, givenOf, Unitary, Within, kindsOf, blank, groupAt, Tied}
+use Rattle.options.specs.Options.{optOf, givenBy, givenOf, Unitary, Within, kindsOf, blank, groupAt, Tied, withGiven}
 use Rattle.options.specs.declared.Given.{Given}
 use Rattle.options.specs.declared.Options.{Options}
 
@@ -134,12 +133,8 @@ has-given s g = go (g .given)
     go true = refl
     go false = refl
 
--- a command admits an option that it takes, where none of its group is given
-pub admits-group : {s : List ℕ} {gs : List model.Given} {o : Options} (n : Name) (x : model.Opt) → Tied s gs o
-    → takes (ruleOf n .kinds) (optRuleOf x .kind) ≡ true → admits (ruleOf n) gs x ≡ not (groupAt o (optRuleOf x .group) .given)
-admits-group {s} {gs} {o} n x t h =
-    ap (λ (b : Bool). b && not (has (optRuleOf x .group) gs)) h
-    ∙ ap not (ap isSome (t .picks (optRuleOf x .group)) ∙ has-given s (groupAt o (optRuleOf x .group)))
+pub has-group : {s : List ℕ} {gs : List model.Given} {o : Options} → Tied s gs o → (k : Kind) → has k gs ≡ groupAt o k .given
+has-group {s} {gs} {o} t k = ap isSome (t .picks k) ∙ has-given s (groupAt o k)
 
 pub tied-none : (s : List ℕ) (l : List Given) (w : Plain) → length l ≡ 10
     → ((k : Kind) → getD l (kindNo k) blank ≡ record { given = false; opt = Opt.Plain w; word = record { start = 0; end = 0 } }) → Tied s [] (record { groups = l })
@@ -150,46 +145,53 @@ tied-none s l w n h = record {
   spans = λ k. subst (λ (g : Given). Within s (g .word)) (sym (h k)) (omega arith);
 }
 
-module _ {s : List ℕ} {gs : List model.Given} {o : Options} (t : Tied s gs o) (x : Opt) (u : Unitary x) (w : Span) (i : Within s w) where
-  new : Given
-  new = record { given = true; opt = x; word = w }
-
+module _ {s : List ℕ} {gs : List model.Given} {o : Options} (t : Tied s gs o) (g : Given) (u : Unitary (g .opt)) (i : Within s (g .word)) where
   group : Kind
-  group = optRuleOf (optOf x) .group
+  group = optRuleOf (optOf (g .opt)) .group
 
   put : (k : Kind) → Given
-  put k = getD (set (o .groups) (kindNo group) new) (kindNo k) blank
+  put k = getD (set (o .groups) (kindNo group) g) (kindNo k) blank
 
-  put-there : (k : Kind) → kindNo k ≡ kindNo group → put k ≡ new
+  put-there : (k : Kind) → kindNo k ≡ kindNo group → put k ≡ g
   unfolding put
   put-there k e =
-      ap (λ (i : ℕ). getD (set (o .groups) (kindNo group) new) i blank) e
-      ∙ getD-set-same (o .groups) (kindNo group) new blank (omega (arith, t .ten, kind-small group))
+      ap (λ (i : ℕ). getD (set (o .groups) (kindNo group) g) i blank) e
+      ∙ getD-set-same (o .groups) (kindNo group) g blank (omega (arith, t .ten, kind-small group))
 
   put-other : (k : Kind) → (kindNo k ≡ kindNo group → ⊥) → put k ≡ groupAt o k
   unfolding put
-  put-other k e = getD-set-other (o .groups) (kindNo group) (kindNo k) new blank e
-
-  picked : (k : Kind) (b : Bool) → eqb (kindNo k) (kindNo group) ≡ b
-      → cond b (some (givenBy x (bytesOf s w))) (pick k gs) ≡ givenOf s (put k)
-  unfolding new
-  picked k true e = sym (ap (givenOf s) (put-there k (eqb-true (kindNo k) (kindNo group) e)))
-  picked k false e = t .picks k ∙ sym (ap (givenOf s) (put-other k (eqb-false (kindNo k) (kindNo group) e)))
+  put-other k e = getD-set-other (o .groups) (kindNo group) (kindNo k) g blank e
 
   -- what holds of the new option and of each old one holds of each
-  kept : (P : Given → Type 0) → P new → ((k : Kind) → P (groupAt o k)) → (k : Kind) (b : Bool) → eqb (kindNo k) (kindNo group) ≡ b → P (put k)
+  kept : (P : Given → Type 0) → P g → ((k : Kind) → P (groupAt o k)) → (k : Kind) (b : Bool) → eqb (kindNo k) (kindNo group) ≡ b → P (put k)
   kept P h hs k true e = subst P (sym (put-there k (eqb-true (kindNo k) (kindNo group) e))) h
   kept P h hs k false e = subst P (sym (put-other k (eqb-false (kindNo k) (kindNo group) e))) (hs k)
 
-  -- one more option stands in its group, and the other groups are as they were
-  pub tied-add : Tied s (givenBy x (bytesOf s w) ∷ gs) (record { groups = set (o .groups) (kindNo (optRuleOf (optOf x) .group)) (record { given = true; opt = x; word = w }) })
-  unfolding new group put
-  tied-add = record {
-    ten = length-set (o .groups) (kindNo group) new ∙ t .ten;
-    picks = λ k. picked k (eqb (kindNo k) (kindNo group)) refl;
-    units = λ k. kept (λ g. Unitary (g .opt)) u (t .units) k (eqb (kindNo k) (kindNo group)) refl;
-    spans = λ k. kept (λ g. Within s (g .word)) i (t .spans) k (eqb (kindNo k) (kindNo group)) refl;
-  }
+  module _ (h : groupAt o (optRuleOf (optOf (g .opt)) .group) .given ≡ false) where
+    -- an option that waits leaves its group free
+    still-free : (k : Kind) → kindNo k ≡ kindNo group → pick k gs ≡ none
+    unfolding group
+    still-free k e = t .picks k ∙ (ap (λ (i : ℕ). givenOf s (getD (o .groups) i blank)) e ∙ rw h)
+
+    picked : (k : Kind) (b c : Bool) → eqb (kindNo k) (kindNo group) ≡ b → g .given ≡ c
+        → pick k (cond c (givenBy (g .opt) (bytesOf s (g .word)) ∷ gs) gs) ≡ givenOf s (put k)
+    unfolding group
+    picked k true true e p = rw e (sym (ap (givenOf s) (put-there k (eqb-true (kindNo k) (kindNo group) e)) ∙ rw p))
+    picked k true false e p =
+        let same = eqb-true (kindNo k) (kindNo group) e in
+        still-free k same ∙ sym (ap (givenOf s) (put-there k same) ∙ rw p)
+    picked k false true e p = rw e (t .picks k ∙ sym (ap (givenOf s) (put-other k (eqb-false (kindNo k) (kindNo group) e))))
+    picked k false false e p = t .picks k ∙ sym (ap (givenOf s) (put-other k (eqb-false (kindNo k) (kindNo group) e)))
+
+    -- one more option stands in its group, and the other groups are as they were
+    pub tied-put : Tied s (withGiven s g gs) (record { groups = set (o .groups) (kindNo (optRuleOf (optOf (g .opt)) .group)) g })
+    unfolding group put
+    tied-put = record {
+      ten = length-set (o .groups) (kindNo group) g ∙ t .ten;
+      picks = λ k. picked k (eqb (kindNo k) (kindNo group)) (g .given) refl refl;
+      units = λ k. kept (λ g. Unitary (g .opt)) u (t .units) k (eqb (kindNo k) (kindNo group)) refl;
+      spans = λ k. kept (λ g. Within s (g .word)) i (t .spans) k (eqb (kindNo k) (kindNo group)) refl;
+    }
 
 -- ---- what stands in a group is of that group
 

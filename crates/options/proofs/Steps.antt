@@ -1,39 +1,46 @@
 -- The options word by word: what the model's reading comes to after each kind of word.
 use Prim.Native.Nat.{ℕ, suc, _+_, _≤_, _<_}
 use native.Mathlib.Numerals.{add-one}
+use native.Mathlib.Omega.{arith}
 use mathlib.Core.Path.{_≡_, refl, sym, ap, _∙_, subst}
-use mathlib.Core.Bool.{Bool, true, false, cond}
+use mathlib.Core.Bool.{Bool, true, false, cond, _&&_, not}
 use mathlib.Core.List.{List, [], _∷_}
 use mathlib.Core.Option.{Option, none, some}
-use lib.ListN.{length, drop, drop-of-length-le}
+use lib.ListN.{length, drop, set, drop-of-length-le}
 use lib.Seq.{drop-cons}
 use Rattle.model.specs.Bytes.{uppers}
 use Rattle.model.specs.Optional.{_>>=_, only}
 use Rattle.model.specs.Command as model
-use Rattle.model.specs.Command.{Rule, Given, Number, isSome, optRuleOf, look, options, admits, givenAt, waitsFor, readOptions, wordAt}
+use Rattle.model.specs.Command.{Rule, Number, ruleOf, kindNo, takes, has, isSome, optRuleOf, look, options, admits, givenAt, waitsFor, readOptions, wordAt}
 use Rattle.model.proofs.Basics.{never}
 use Rattle.command.specs.Command.{bytesOf, wordsOf}
+use Rattle.command.specs.Words.{spelledFrom}
 use Rattle.command.specs.declared.Span.{Span}
-use Rattle.options.specs.Places.{placeOf}
-use Rattle.options.specs.Options.{optOf, Unitary, Tied, waitingOf, givenBy, Admitted, Stepped, Reads}
 use Rattle.command.specs.declared.Opt.{Opt}
+use Rattle.command.specs.declared.Spelled.{Spelled}
+use Rattle.command.specs.declared.Spelled.the-variants as Spelled
+use Rattle.options.specs.Places.{placeOf}
+use Rattle.options.specs.Options.{optOf, Unitary, Within, Tied, groupAt, waitingOf, withGiven, newOption, takenAs, Reads}
+use Rattle.options.specs.declared.Given.{Given}
 use Rattle.options.specs.declared.Options.{Options}
-use Rattle.options.specs.declared.State.{State}
+use Rattle.options.specs.declared.Taken.{Taken}
+use Rattle.options.specs.declared.Taken.the-variants as Taken
+use Rattle.options.proofs.Groups.{spelled-known, spelled-unknown, found-unit, has-group, tied-put}
 
-pub waiting-some : (t : State) → t .waits ≡ true → waitingOf t ≡ some (optOf (t .opt))
-waiting-some t e = rw e
+pub waiting-some : (g : Given) → g .given ≡ false → waitingOf g ≡ some (optOf (g .opt))
+waiting-some g e = rw e
 
-pub waiting-none : (t : State) → t .waits ≡ false → waitingOf t ≡ none
-waiting-none t e = rw e
+pub waiting-none : (g : Given) → g .given ≡ true → waitingOf g ≡ none
+waiting-none g e = rw e
 
-module _ (r : Rule) (gs : List Given) (w : List ℕ) (ws : List (List ℕ)) where
+module _ (r : Rule) (gs : List model.Given) (w : List ℕ) (ws : List (List ℕ)) where
   -- the word after an option that waits is taken as its number
   pub word-taken : (o : model.Opt) → readOptions r gs (some o) (w ∷ ws) ≡ readOptions r (record { opt = o; word = w } ∷ gs) none ws
   unfolding readOptions
   word-taken o = refl
 
   -- what an option comes to
-  then : model.Opt → Option (List Given)
+  then : model.Opt → Option (List model.Given)
   then o = readOptions r (givenAt (optRuleOf o .number) o gs) (waitsFor (optRuleOf o .number) o) ws
 
   spelled : (x : Option model.Opt) → look (uppers w) options ≡ x → readOptions r gs none (w ∷ ws) ≡ only (admits r gs) x >>= then
@@ -51,129 +58,184 @@ module _ (r : Rule) (gs : List Given) (w : List ℕ) (ws : List (List ℕ)) wher
   unfolding then
   word-admitted o e a = spelled (some o) e ∙ ap (λ (b : Bool). cond b (some o) none >>= then) a
 
--- ---- an option that is admitted
+-- ---- one word
 
-module _ {s : List ℕ} {gs : List Given} where
-  -- it waits for its number's word
-  pub admitted-numbered : {o : Options} → Tied s gs o → (x : Opt) → Unitary x → isSome (optRuleOf (optOf x) .number) ≡ true
-      → Admitted s gs (optOf x) (record { options = o; waits = true; opt = x; wrong = false })
-  admitted-numbered {o} t x u e = go (optRuleOf (optOf x) .number) refl e
-    where
-      go : (n : Option Number) → optRuleOf (optOf x) .number ≡ n → isSome n ≡ true
-          → Admitted s gs (optOf x) (record { options = o; waits = true; opt = x; wrong = false })
-      go none p e = never false e refl
-      go (some n) p e = record {
-        options = rw p t;
-        waits = rw p;
-        unit = u;
-        right = refl;
+-- what holds after a word that makes the option g of the one last read: g is taken if its group is free
+pub record Turn (r : Rule) (s : List ℕ) (gs : List model.Given) (last : Given) (w : List ℕ) (ws : List (List ℕ)) (g : Given) : Type 0 where
+  pub unit : Unitary (g .opt)
+  pub within : Within s (g .word)
+  pub taken : has (optRuleOf (optOf (g .opt)) .group) gs ≡ false → readOptions r gs (waitingOf last) (w ∷ ws) ≡ readOptions r (withGiven s g gs) (waitingOf g) ws
+  pub refused : has (optRuleOf (optOf (g .opt)) .group) gs ≡ true → readOptions r gs (waitingOf last) (w ∷ ws) ≡ none
+
+-- the option last read may be given its number
+pub record Waits (gs : List model.Given) (last : Given) : Type 0 where
+  pub unit : Unitary (last .opt)
+  pub free : last .given ≡ false → has (optRuleOf (optOf (last .opt)) .group) gs ≡ false
+
+module _ {A : Type 0} where
+  wrong-as : {g : Given} → Taken.Wrong ≡ Taken.As g → A
+  wrong-as e = let z : _≡_ {A = ℕ} 0 1 = cc in absurd (omega arith)
+
+  as-wrong : {g : Given} → Taken.As g ≡ Taken.Wrong → A
+  as-wrong e = let z : _≡_ {A = ℕ} 0 1 = cc in absurd (omega arith)
+
+module _ (n : model.Name) (s : List ℕ) (gs : List model.Given) (last : Given) (word : Span) (w : List ℕ) (ws : List (List ℕ)) where
+  abbrev rule : Rule
+  rule = ruleOf n
+
+  -- what the words come to
+  abbrev whole : Option (List model.Given)
+  whole = readOptions rule gs (waitingOf last) (w ∷ ws)
+
+  turn-number : last .given ≡ false → Waits gs last → bytesOf s word ≡ w → Within s word
+      → Turn rule s gs last w ws (record { given = true; opt = last .opt; word = word })
+  turn-number p d e i = record {
+    unit = d .unit;
+    within = i;
+    taken = λ h.
+        ap (λ (x : Option model.Opt). readOptions rule gs x (w ∷ ws)) (waiting-some last p)
+        ∙ (word-taken rule gs w ws (optOf (last .opt)) ∙ ap (λ (v : List ℕ). readOptions rule (record { opt = optOf (last .opt); word = v } ∷ gs) none ws) (sym e));
+    refused = λ h. never false (sym (d .free p) ∙ h) refl;
+  }
+
+  module _ (p : last .given ≡ true) where
+    awake : whole ≡ readOptions rule gs none (w ∷ ws)
+    awake = ap (λ (x : Option model.Opt). readOptions rule gs x (w ∷ ws)) (waiting-none last p)
+
+    new : Opt → Option Number → Given
+    new x m = record { given = not (isSome m); opt = x; word = record { start = 0; end = 0 } }
+
+    -- an option waits where a number follows, and is given at once where none does
+    given-new : (x : Opt) (m : Option Number) → readOptions rule (givenAt m (optOf x) gs) (waitsFor m (optOf x)) ws ≡ readOptions rule (withGiven s (new x m) gs) (waitingOf (new x m)) ws
+    unfolding new
+    given-new x none = refl
+    given-new x (some m) = refl
+
+    module _ (x : Opt) (e : look (uppers w) options ≡ some (optOf x)) (h : takes (rule .kinds) (optRuleOf (optOf x) .kind) ≡ true) where
+      admitted : (b : Bool) → has (optRuleOf (optOf x) .group) gs ≡ b → admits rule gs (optOf x) ≡ not b
+      admitted b q = ap (λ (t : Bool). t && not (has (optRuleOf (optOf x) .group) gs)) h ∙ ap not q
+
+      turn-new : Turn rule s gs last w ws (record { given = not (isSome (optRuleOf (optOf x) .number)); opt = x; word = record { start = 0; end = 0 } })
+      unfolding new
+      turn-new = record {
+        unit = found-unit (uppers w) x e;
+        within = omega arith;
+        taken = λ q. awake ∙ (word-admitted rule gs w ws (optOf x) e (admitted false q) ∙ given-new x (optRuleOf (optOf x) .number));
+        refused = λ q. awake ∙ word-refused rule gs w ws (optOf x) e (admitted true q);
       }
 
-  -- or is given at once
-  pub admitted-plain : {o : Options} → (x : Opt) → Unitary x → isSome (optRuleOf (optOf x) .number) ≡ false → Tied s (givenBy x [] ∷ gs) o
-      → Admitted s gs (optOf x) (record { options = o; waits = false; opt = x; wrong = false })
-  admitted-plain {o} x u e t = go (optRuleOf (optOf x) .number) refl e
+    module _ {g : Given} where
+      turn-spelled : (x : Spelled) → spelledFrom (look (uppers w) options) ≡ x → newOption n x ≡ Taken.As g → Turn rule s gs last w ws g
+      turn-spelled Spelled.Unknown q e = wrong-as e
+      turn-spelled (Spelled.Known x) q e = go (takes (rule .kinds) (optRuleOf (optOf x) .kind)) refl e
+        where
+          go : (b : Bool) → takes (rule .kinds) (optRuleOf (optOf x) .kind) ≡ b
+              → cond b (Taken.As (record { given = not (isSome (optRuleOf (optOf x) .number)); opt = x; word = record { start = 0; end = 0 } })) Taken.Wrong ≡ Taken.As g
+              → Turn rule s gs last w ws g
+          go false h e = wrong-as e
+          go true h e =
+              let same : _≡_ {A = Given} (record { given = not (isSome (optRuleOf (optOf x) .number)); opt = x; word = record { start = 0; end = 0 } }) g = cc in
+              subst (Turn rule s gs last w ws) same (turn-new x (spelled-known _ q) h)
+
+    wrong-spelled : (x : Spelled) → spelledFrom (look (uppers w) options) ≡ x → newOption n x ≡ Taken.Wrong → whole ≡ none
+    wrong-spelled Spelled.Unknown q e = awake ∙ word-unknown rule gs w ws (spelled-unknown _ q)
+    wrong-spelled (Spelled.Known x) q e = go (takes (rule .kinds) (optRuleOf (optOf x) .kind)) refl e
+      where
+        go : (b : Bool) → takes (rule .kinds) (optRuleOf (optOf x) .kind) ≡ b
+            → cond b (Taken.As (record { given = not (isSome (optRuleOf (optOf x) .number)); opt = x; word = record { start = 0; end = 0 } })) Taken.Wrong ≡ Taken.Wrong
+            → whole ≡ none
+        go true h e = as-wrong e
+        go false h e =
+            awake
+            ∙ word-refused rule gs w ws (optOf x) (spelled-known _ q) (ap (λ (t : Bool). t && not (has (optRuleOf (optOf x) .group) gs)) h)
+
+  -- a word that makes an option of the one last read
+  pub turn : {g : Given} → Waits gs last → bytesOf s word ≡ w → Within s word → takenAs n last word (spelledFrom (look (uppers w) options)) ≡ Taken.As g
+      → Turn (ruleOf n) s gs last w ws g
+  turn {g} d v i e = go (last .given) refl e
     where
-      go : (n : Option Number) → optRuleOf (optOf x) .number ≡ n → isSome n ≡ false
-          → Admitted s gs (optOf x) (record { options = o; waits = false; opt = x; wrong = false })
-      go (some n) p e = never true refl e
-      go none p e = record {
-        options = rw p t;
-        waits = rw p;
-        unit = u;
-        right = refl;
-      }
+      go : (b : Bool) → last .given ≡ b
+          → cond b (newOption n (spelledFrom (look (uppers w) options))) (Taken.As (record { given = true; opt = last .opt; word = word })) ≡ Taken.As g
+          → Turn rule s gs last w ws g
+      go true p e = turn-spelled p (spelledFrom (look (uppers w) options)) refl e
+      go false p e =
+          let same : _≡_ {A = Given} (record { given = true; opt = last .opt; word = word }) g = cc in
+          subst (Turn rule s gs last w ws) same (turn-number p d v i)
 
--- ---- the state after a word
+  -- a word that is wrong
+  pub turn-wrong : takenAs n last word (spelledFrom (look (uppers w) options)) ≡ Taken.Wrong → readOptions (ruleOf n) gs (waitingOf last) (w ∷ ws) ≡ none
+  turn-wrong e = go (last .given) refl e
+    where
+      go : (b : Bool) → last .given ≡ b
+          → cond b (newOption n (spelledFrom (look (uppers w) options))) (Taken.As (record { given = true; opt = last .opt; word = word })) ≡ Taken.Wrong
+          → whole ≡ none
+      go true p e = wrong-spelled p (spelledFrom (look (uppers w) options)) refl e
+      go false p e = as-wrong e
 
-module _ (r : Rule) (s : List ℕ) (gs : List Given) (t : State) (w : List ℕ) (ws : List (List ℕ)) where
-  pub stepped-number : {o : Options} (p : Span) → t .waits ≡ true → Unitary (t .opt) → bytesOf s p ≡ w → Tied s (givenBy (t .opt) (bytesOf s p) ∷ gs) o
-      → Stepped r s (readOptions r gs (waitingOf t) (w ∷ ws)) ws (record { options = o; waits = false; opt = t .opt; wrong = false }) false
-  stepped-number {o} p h u e d = (
-    givenBy (t .opt) (bytesOf s p) ∷ gs,
-    d,
-    u,
-    ap (λ (x : Option model.Opt). readOptions r gs x (w ∷ ws)) (waiting-some t h)
-        ∙ (word-taken r gs w ws (optOf (t .opt)) ∙ ap (λ (v : List ℕ). readOptions r (givenBy (t .opt) v ∷ gs) none ws) (sym e)),
-  )
+-- ---- the words in turn
 
-  module _ (h : t .waits ≡ false) where
-    awake : readOptions r gs (waitingOf t) (w ∷ ws) ≡ readOptions r gs none (w ∷ ws)
-    awake = ap (λ (x : Option model.Opt). readOptions r gs x (w ∷ ws)) (waiting-none t h)
-
-    pub stepped-unknown : look (uppers w) options ≡ none → readOptions r gs (waitingOf t) (w ∷ ws) ≡ none
-    stepped-unknown e = awake ∙ word-unknown r gs w ws e
-
-    pub stepped-refused : (o : model.Opt) → look (uppers w) options ≡ some o → admits r gs o ≡ false → readOptions r gs (waitingOf t) (w ∷ ws) ≡ none
-    stepped-refused o e a = awake ∙ word-refused r gs w ws o e a
-
-    pub stepped-option : {t' : State} (o : model.Opt) → look (uppers w) options ≡ some o → admits r gs o ≡ true → Admitted s gs o t'
-        → Stepped r s (readOptions r gs (waitingOf t) (w ∷ ws)) ws t' (t' .wrong)
-    stepped-option {t'} o e a d =
-        subst (Stepped r s (readOptions r gs (waitingOf t) (w ∷ ws)) ws t') (sym (d .right)) (
-          givenAt (optRuleOf o .number) o gs,
-          d .options,
-          d .unit,
-          awake
-              ∙ (word-admitted r gs w ws o e a
-              ∙ ap (λ (x : Option model.Opt). readOptions r (givenAt (optRuleOf o .number) o gs) x ws) (d .waits)),
-        )
-
--- ---- the end of the words
-
-pub none-left : (r : Rule) (gs : List Given) → readOptions r gs none [] ≡ some gs
+pub none-left : (r : Rule) (gs : List model.Given) → readOptions r gs none [] ≡ some gs
 unfolding readOptions
 none-left r gs = refl
 
-pub waits-left : (r : Rule) (gs : List Given) (o : model.Opt) → readOptions r gs (some o) [] ≡ none
+pub waits-left : (r : Rule) (gs : List model.Given) (o : model.Opt) → readOptions r gs (some o) [] ≡ none
 unfolding readOptions
 waits-left r gs o = refl
 
+-- an option that waits leaves its group free for its number
+waits-next : (s : List ℕ) (gs : List model.Given) (g : Given) → Unitary (g .opt) → has (optRuleOf (optOf (g .opt)) .group) gs ≡ false → Waits (withGiven s g gs) g
+waits-next s gs g u h = record {
+  unit = u;
+  free = λ e. rw e h;
+}
+
 -- before word i: what was read, with the words left, comes to the whole
-pub record Reached (s : List ℕ) (r : Rule) (first i place : ℕ) (t : State) : Type 0 where
+pub record Reached (s : List ℕ) (r : Rule) (first i place : ℕ) (o : Options) (last : Given) : Type 0 where
   pub there : place ≡ placeOf i (wordsOf s)
   pub most : i ≤ length (wordsOf s)
-  pub given : List Given
-  pub tied : Tied s given (t .options)
-  pub unit : Unitary (t .opt)
-  pub whole : readOptions r [] none (drop first (wordsOf s)) ≡ readOptions r given (waitingOf t) (drop i (wordsOf s))
+  pub given : List model.Given
+  pub tied : Tied s given o
+  pub waits : Waits given last
+  pub whole : readOptions r [] none (drop first (wordsOf s)) ≡ readOptions r given (waitingOf last) (drop i (wordsOf s))
 
-module _ {s : List ℕ} {r : Rule} {first : ℕ} where
-  -- the word i stands before the words left
-  pub at-word : {i place : ℕ} {t : State} (b : Reached s r first i place t) → i < length (wordsOf s)
-      → readOptions r [] none (drop first (wordsOf s)) ≡ readOptions r (b .given) (waitingOf t) (wordAt i (wordsOf s) ∷ drop (suc i) (wordsOf s))
-  at-word {i} {place} {t} b h =
-      b .whole ∙ ap (readOptions r (b .given) (waitingOf t)) (drop-cons (wordsOf s) i [] h)
+module _ {s : List ℕ} {r : Rule} {first i place : ℕ} {o : Options} {last : Given} (b : Reached s r first i place o last) where
+  module _ (h : i < length (wordsOf s)) where
+    -- the word i stands before the words left
+    pub at-word : readOptions r [] none (drop first (wordsOf s)) ≡ readOptions r (b .given) (waitingOf last) (wordAt i (wordsOf s) ∷ drop (suc i) (wordsOf s))
+    at-word = b .whole ∙ ap (readOptions r (b .given) (waitingOf last)) (drop-cons (wordsOf s) i [] h)
 
-  -- a state that stands before word i, after that word
-  pub reached-next : {i place next : ℕ} {t t' : State} (b : Reached s r first i place t) → i < length (wordsOf s) → next ≡ placeOf (suc i) (wordsOf s)
-      → Stepped r s (readOptions r (b .given) (waitingOf t) (wordAt i (wordsOf s) ∷ drop (suc i) (wordsOf s))) (drop (suc i) (wordsOf s)) t' false
-      → Reached s r first (i + 1) next t'
-  reached-next {i} {place} {next} {t} {t'} b h p d = rw (add-one i) (record {
-    there = p;
-    most = h;
-    given = d .0;
-    tied = d .1;
-    unit = d .2;
-    whole = at-word b h ∙ d .3;
-  })
-
-  module _ {i place : ℕ} {t : State} (b : Reached s r first i place t) where
-    pub reads-wrong : (o : Options) → i < length (wordsOf s)
-        → readOptions r (b .given) (waitingOf t) (wordAt i (wordsOf s) ∷ drop (suc i) (wordsOf s)) ≡ none
+    pub reads-wrong : readOptions r (b .given) (waitingOf last) (wordAt i (wordsOf s) ∷ drop (suc i) (wordsOf s)) ≡ none
         → Reads s (readOptions r [] none (drop first (wordsOf s))) (record { number = 8; options = o })
-    reads-wrong o h e = rw (at-word b h ∙ e) refl
+    reads-wrong e = rw (at-word ∙ e) refl
 
-    module _ (h : length (wordsOf s) ≤ i) where
-      ended : drop i (wordsOf s) ≡ []
-      ended = drop-of-length-le (wordsOf s) {i = i} h
+    module _ {g : Given} (d : Turn r s (b .given) last (wordAt i (wordsOf s)) (drop (suc i) (wordsOf s)) g) where
+      pub reads-held : groupAt o (optRuleOf (optOf (g .opt)) .group) .given ≡ true → Reads s (readOptions r [] none (drop first (wordsOf s))) (record { number = 8; options = o })
+      reads-held e = reads-wrong (d .refused (has-group (b .tied) (optRuleOf (optOf (g .opt)) .group) ∙ e))
 
-      pub reads-waiting : (o : Options) → t .waits ≡ true → Reads s (readOptions r [] none (drop first (wordsOf s))) (record { number = 8; options = o })
-      reads-waiting o e =
-          rw (b .whole ∙ (ap (readOptions r (b .given) (waitingOf t)) ended ∙ (ap (λ (x : Option model.Opt). readOptions r (b .given) x []) (waiting-some t e) ∙ waits-left r (b .given) (optOf (t .opt)))))
-          refl
+      -- after that word, where the option's group was free
+      pub reached-next : {next : ℕ} → next ≡ placeOf (suc i) (wordsOf s) → groupAt o (optRuleOf (optOf (g .opt)) .group) .given ≡ false
+          → Reached s r first (i + 1) next (record { groups = set (o .groups) (kindNo (optRuleOf (optOf (g .opt)) .group)) g }) g
+      reached-next p e =
+          let free = has-group (b .tied) (optRuleOf (optOf (g .opt)) .group) ∙ e in
+          rw (add-one i) (record {
+            there = p;
+            most = h;
+            given = withGiven s g (b .given);
+            tied = tied-put (b .tied) g (d .unit) (d .within) e;
+            waits = waits-next s (b .given) g (d .unit) free;
+            whole = at-word ∙ d .taken free;
+          })
 
-      pub reads-all : t .waits ≡ false → Reads s (readOptions r [] none (drop first (wordsOf s))) (record { number = 0; options = t .options })
-      reads-all e =
-          rw (b .whole ∙ (ap (readOptions r (b .given) (waitingOf t)) ended ∙ (ap (λ (x : Option model.Opt). readOptions r (b .given) x []) (waiting-none t e) ∙ none-left r (b .given))))
-          (refl, b .tied)
+  module _ (h : length (wordsOf s) ≤ i) where
+    ended : drop i (wordsOf s) ≡ []
+    ended = drop-of-length-le (wordsOf s) {i = i} h
+
+    pub reads-waiting : last .given ≡ false → Reads s (readOptions r [] none (drop first (wordsOf s))) (record { number = 8; options = o })
+    reads-waiting e =
+        rw (b .whole ∙ (ap (readOptions r (b .given) (waitingOf last)) ended ∙ (ap (λ (x : Option model.Opt). readOptions r (b .given) x []) (waiting-some last e) ∙ waits-left r (b .given) (optOf (last .opt)))))
+        refl
+
+    pub reads-all : last .given ≡ true → Reads s (readOptions r [] none (drop first (wordsOf s))) (record { number = 0; options = o })
+    reads-all e =
+        rw (b .whole ∙ (ap (readOptions r (b .given) (waitingOf last)) ended ∙ (ap (λ (x : Option model.Opt). readOptions r (b .given) x []) (waiting-none last e) ∙ none-left r (b .given))))
+        (refl, b .tied)

@@ -1,21 +1,24 @@
 -- What ties the options of a command by value to the model's list of given options.
 use Prim.Native.Nat.{ℕ, _≤_}
 use mathlib.Core.Path.{_≡_}
-use mathlib.Core.Bool.{Bool, true, false, cond}
+use mathlib.Core.Bool.{true, false, cond, not}
 use mathlib.Core.List.{List, [], _∷_, map}
 use mathlib.Core.Option.{Option, none, some}
 use lib.ListN.{length, getD}
 use Rattle.model.specs.Command as model
-use Rattle.model.specs.Command.{Kind, kindNo, pick, takes, optRuleOf, givenAt, waitsFor, readOptions, Rule, ruleOf}
+use Rattle.model.specs.Command.{Kind, kindNo, pick, takes, isSome, optRuleOf, ruleOf}
 use Rattle.command.specs.Command.{bytesOf, presenceOf}
 use Rattle.command.specs.declared.Span.{Span}
 use Rattle.command.specs.declared.Plain.{Plain}
 use Rattle.command.specs.declared.Plain.the-variants as Plain
 use Rattle.command.specs.declared.Opt.{Opt}
 use Rattle.command.specs.declared.Opt.the-variants as Opt
+use Rattle.command.specs.declared.Spelled.{Spelled}
+use Rattle.command.specs.declared.Spelled.the-variants as Spelled
 use Rattle.options.specs.declared.Given.{Given}
 use Rattle.options.specs.declared.Options.{Options}
-use Rattle.options.specs.declared.State.{State}
+use Rattle.options.specs.declared.Taken.{Taken}
+use Rattle.options.specs.declared.Taken.the-variants as Taken
 use Rattle.options.specs.declared.Collected.{Collected}
 
 -- ---- an option by value
@@ -84,21 +87,25 @@ pub record Tied (s : List ℕ) (gs : List model.Given) (o : Options) : Type 0 wh
 -- ---- word by word
 
 -- the option that waits for its number's word
-abbrev pub waitingOf : State → Option model.Opt
-waitingOf t = cond (t .waits) (some (optOf (t .opt))) none
+abbrev pub waitingOf : Given → Option model.Opt
+waitingOf g = cond (g .given) none (some (optOf (g .opt)))
 
--- the state after an option that is admitted beside the options gs
-pub record Admitted (s : List ℕ) (gs : List model.Given) (o : model.Opt) (t : State) : Type 0 where
-  pub options : Tied s (givenAt (optRuleOf o .number) o gs) (t .options)
-  pub waits : waitsFor (optRuleOf o .number) o ≡ waitingOf t
-  pub unit : Unitary (t .opt)
-  pub right : t .wrong ≡ false
+-- the options gs, and g where it is given
+abbrev pub withGiven : List ℕ → Given → List model.Given → List model.Given
+withGiven s g gs = cond (g .given) (givenBy (g .opt) (bytesOf s (g .word)) ∷ gs) gs
 
--- the state after a word, where the whole reading comes to `whole` and the words ws are left
-abbrev pub Stepped : Rule → List ℕ → (whole : Option (List model.Given)) → List (List ℕ) → State → (wrong : Bool) → Type 0
-Stepped r s whole ws t true = whole ≡ none
-Stepped r s whole ws t false =
-    (gs : List model.Given) × Tied s gs (t .options) × Unitary (t .opt) × (whole ≡ readOptions r gs (waitingOf t) ws)
+-- an option that a word spells: the command must take it, and it waits where a number follows
+abbrev pub newOption : model.Name → Spelled → Taken
+newOption n Spelled.Unknown = Taken.Wrong
+newOption n (Spelled.Known x) =
+    let r = optRuleOf (optOf x) in
+    cond (takes (ruleOf n .kinds) (r .kind))
+    (Taken.As (record { given = not (isSome (r .number)); opt = x; word = record { start = 0; end = 0 } }))
+    Taken.Wrong
+
+-- what a word at the span `word` makes of the option last read
+abbrev pub takenAs : model.Name → (last : Given) → (word : Span) → Spelled → Taken
+takenAs n last word x = cond (last .given) (newOption n x) (Taken.As (record { given = true; opt = last .opt; word = word }))
 
 -- what the reading answers
 abbrev pub Reads : List ℕ → Option (List model.Given) → Collected → Type 0

@@ -6,15 +6,16 @@ use command::Span;
 use command::Spelled;
 use resp::Word;
 ghost use mathlib.Core.Path.{_≡_};
-ghost use mathlib.Core.List.{List, [], _∷_};
+ghost use mathlib.Core.List.{List, []};
 ghost use mathlib.Core.Option.{none};
 ghost use Prim.Native.Nat.{ℕ};
 ghost use lib.ListN.{drop};
-ghost use Rattle.model.specs.Command.{Given as ModelGiven, kindNo, optRuleOf, ruleOf, isSome, admits, readOptions};
-ghost use Rattle.command.specs.Command.{bytesOf, wordsOf};
-ghost use Rattle.command.specs.Words.{nameOf};
+ghost use Rattle.model.specs.Bytes.{uppers};
+ghost use Rattle.model.specs.Command.{kindNo, optRuleOf, ruleOf, isSome, look, options, readOptions};
+ghost use Rattle.command.specs.Command.{wordsOf};
+ghost use Rattle.command.specs.Words.{nameOf, spelledFrom};
 ghost use Rattle.options.specs.Places.{AtWord};
-ghost use Rattle.options.specs.Options.{optOf, givenBy, Unitary, Within, kindsOf, Tied, waitingOf, Admitted, Stepped, Reads};
+ghost use Rattle.options.specs.Options.{optOf, kindsOf, Tied, takenAs, Reads};
 
 // The groups of options.
 pub const TIME: usize = 0;
@@ -35,7 +36,7 @@ pub const WITHVERSION: usize = 8;
 
 pub const WITHFLAGS: usize = 9;
 
-// The option of a group and the word of its number, if one is given.
+// An option and the word of its number. It is given once that word is read, or at once where no number follows.
 pub struct Given {
     pub given: bool,
     pub opt: Opt,
@@ -47,12 +48,10 @@ pub struct Options {
     pub groups: [Given; 10],
 }
 
-// The options read so far, the one that waits for its number's word, and whether a word was wrong.
-pub struct State {
-    pub options: Options,
-    pub waits: bool,
-    pub opt: Opt,
-    pub wrong: bool,
+// What a word of the options makes of the option last read, or that it is wrong.
+pub enum Taken {
+    As(Given),
+    Wrong,
 }
 
 // The options of a command, with number 0, or the number of the refusal.
@@ -137,20 +136,6 @@ fn numbered(opt: Opt) -> bool
     }
 }
 
-// Whether a command takes an option, and has none of its group yet.
-fn admits(name: Name, options: Options, opt: Opt) -> bool
-    ensures { λ r. ⌜ ((s : List ℕ) (gs : List ModelGiven) → Tied s gs options → r ≡ admits (ruleOf (nameOf name)) gs (optOf opt)) ⌝ }
-{
-    let takes = kinds(name);
-    let kind = kind_of(opt);
-    if takes[kind] == 1 {
-        let group = group_of(opt);
-        let g = options.groups[group];
-        return !g.given;
-    }
-    false
-}
-
 // No options.
 fn no_options() -> Options
     ensures { λ r. ⌜ ((s : List ℕ) → Tied s [] r) ⌝ }
@@ -163,105 +148,68 @@ fn no_options() -> Options
     Options { groups: [none; 10] }
 }
 
-// The options with one more.
-fn add(options: Options, opt: Opt, word: Span) -> Options
-    requires { ⌜ Unitary opt ⌝ }
-    ensures { λ r. ⌜ ((s : List ℕ) (gs : List ModelGiven) → Within s word → Tied s gs options → Tied s (givenBy opt (bytesOf s word) ∷ gs) r) ⌝ }
+// What the word `w` at the span `word` makes of the option last read: one that waits is given, with the word as its number's; else the word
+// spells another option, which the command must take.
+fn take_word(name: Name, last: Given, w: &[u8], word: Span) -> Taken
+    ensures { λ r. ⌜ r ≡ takenAs (nameOf name) last word (spelledFrom (look (uppers (now (w .entry))) options)) ⌝ }
 {
-    let mut o = options;
-    let group = group_of(opt);
-    o.groups[group] = Given {
+    let opt = last.opt;
+    if last.given {
+        let Spelled::Known(opt) = keyword::option_of(w) else {
+            return Taken::Wrong;
+        };
+        let takes = kinds(name);
+        let kind = kind_of(opt);
+        if takes[kind] == 1 {
+            let word = Span { start: 0, end: 0 };
+            return Taken::As(Given {
+                given: !numbered(opt),
+                opt,
+                word,
+            });
+        }
+        return Taken::Wrong;
+    }
+    Taken::As(Given {
         given: true,
         opt,
         word,
-    };
-    o
+    })
 }
 
-// The state after an option that is admitted: it waits for its number's word, or is given at once.
-fn take_option(options: Options, opt: Opt) -> State
-    requires { ⌜ Unitary opt ⌝ }
-    ensures { λ r. ⌜ ((s : List ℕ) (gs : List ModelGiven) → Tied s gs options → Admitted s gs (optOf opt) r) ⌝ }
-{
-    if numbered(opt) {
-        return State {
-            options,
-            waits: true,
-            opt,
-            wrong: false,
-        };
-    }
-    State {
-        options: add(options, opt, Span { start: 0, end: 0 }),
-        waits: false,
-        opt,
-        wrong: false,
-    }
-}
-
-// The state after the word `w` at the span `word`: the number of the option that waits, or an option.
-fn step(name: Name, state: State, w: &[u8], word: Span) -> State
-    requires { ⌜ Unitary (state .opt) ⌝ }
-    ensures { λ r. ⌜ ((s : List ℕ) (gs : List ModelGiven) (ws : List (List ℕ)) → bytesOf s word ≡ now (w .entry) → Within s word → Tied s gs (state .options) → Stepped (ruleOf (nameOf name)) s (readOptions (ruleOf (nameOf name)) gs (waitingOf state) (now (w .entry) ∷ ws)) ws r (r .wrong)) ⌝ }
-{
-    let options = state.options;
-    let opt = state.opt;
-    if state.waits {
-        return State {
-            options: add(options, opt, word),
-            waits: false,
-            opt,
-            wrong: false,
-        };
-    }
-    let Spelled::Known(found) = keyword::option_of(w) else {
-        return State {
-            options,
-            waits: false,
-            opt,
-            wrong: true,
-        };
-    };
-    if admits(name, options, found) {
-        return take_option(options, found);
-    }
-    State {
-        options,
-        waits: false,
-        opt,
-        wrong: true,
-    }
-}
-
-// The options of the words from the place `at` of word `first` on, of `count` words in all.
+// The options of the words from the place `at` of word `first` on, of `count` words in all. A group is free for the option that waits.
 pub fn read_options(s: &[u8], name: Name, at: usize, first: usize, count: usize) -> Collected
     requires { ⌜ AtWord (now s) count first at ⌝ }
     ensures { λ r. ⌜ Reads (now (s .entry)) (readOptions (ruleOf (nameOf name)) [] none (drop first (wordsOf (now (s .entry))))) r ⌝ }
 {
-    let mut state = State {
-        options: no_options(),
-        waits: false,
+    let mut options = no_options();
+    let mut last = Given {
+        given: true,
         opt: Opt::Plain(Plain::Keepttl),
-        wrong: false,
+        word: Span { start: 0, end: 0 },
     };
     let mut place = at;
     let mut i = first;
     while i < count {
         let Word::At { start, end, next } = resp::read_word(s, place) else {
-            let options = state.options;
             return Collected { number: 4, options };
         };
-        state = step(name, state, &s[start..end], Span { start, end });
-        if state.wrong {
-            let options = state.options;
+        let Taken::As(taken) = take_word(name, last, &s[start..end], Span { start, end }) else {
+            return Collected { number: 8, options };
+        };
+        let opt = taken.opt;
+        let group = group_of(opt);
+        let there = options.groups[group];
+        if there.given {
             return Collected { number: 8, options };
         }
+        options.groups[group] = taken;
+        last = taken;
         place = next;
         i += 1;
     }
-    let options = state.options;
-    if state.waits {
-        return Collected { number: 8, options };
+    if last.given {
+        return Collected { number: 0, options };
     }
-    Collected { number: 0, options }
+    Collected { number: 8, options }
 }
