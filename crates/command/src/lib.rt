@@ -150,7 +150,7 @@ pub enum Plain {
 
 // An option. A time word has its unit in milliseconds; EX and PX count from the call's time.
 pub enum Opt {
-    Time { unit: u64, from_now: bool },
+    Time { unit: u16, from_now: bool },
     Presence(Presence),
     Version { absolute: bool },
     Plain(Plain),

@@ -87,9 +87,9 @@ const OPTIONS: [u8; 85] =
     *b"\x02EX\x02PX\x04EXAT\x04PXAT\x07KEEPTTL\x02NX\x02XX\x03VER\x03ABS\x05FLAGS\x03MIN\x03MAX\x0aNONEGATIVE\x0bWITHVERSION\x09WITHFLAGS";
 
 // The units of the time words, in milliseconds.
-const SECOND: u64 = 1000;
+const SECOND: u16 = 1000;
 
-const MILLISECOND: u64 = 1;
+const MILLISECOND: u16 = 1;
 
 // What a word spells by its place among the options; the last entry is for every other word.
 const SPELLED: [Spelled; 16] = [

@@ -19,7 +19,7 @@ use Rattle.command.specs.declared.Plain.{Plain}
 use Rattle.command.specs.declared.Opt.{Opt}
 use Rattle.command.specs.declared.Opt.the-variants as Opt
 use Rattle.command.specs.declared.Spelled.the-variants as Spelled
-use Rattle.options.specs.Options.{optOf, givenBy, givenOf, Unitary, Within, kindsOf, blank, groupAt, Tied, withGiven}
+use Rattle.options.specs.Options.{optOf, givenBy, wordOf, givenOf, Unitary, Within, kindsOf, blank, groupAt, Tied, withGiven}
 use Rattle.options.specs.declared.Given.{Given}
 use Rattle.options.specs.declared.Options.{Options}
 
@@ -129,7 +129,7 @@ found-unit w x e = unit-of x (look-all unitary w options refl e)
 pub has-given : (s : List ℕ) (g : Given) → isSome (givenOf s g) ≡ g .given
 has-given s g = go (g .given)
   where
-    go : (b : Bool) → isSome (cond b (some (givenBy (g .opt) (bytesOf s (g .word)))) none) ≡ b
+    go : (b : Bool) → isSome (cond b (some (givenBy (g .opt) (bytesOf s (wordOf g)))) none) ≡ b
     go true = refl
     go false = refl
 
@@ -137,15 +137,15 @@ pub has-group : {s : List ℕ} {gs : List model.Given} {o : Options} → Tied s 
 has-group {s} {gs} {o} t k = ap isSome (t .picks k) ∙ has-given s (groupAt o k)
 
 pub tied-none : (s : List ℕ) (l : List Given) (w : Plain) → length l ≡ 10
-    → ((k : Kind) → getD l (kindNo k) blank ≡ record { given = false; opt = Opt.Plain w; word = record { start = 0; end = 0 } }) → Tied s [] (record { groups = l })
+    → ((k : Kind) → getD l (kindNo k) blank ≡ record { given = false; opt = Opt.Plain w; start = 0; end = 0 }) → Tied s [] (record { groups = l })
 tied-none s l w n h = record {
   ten = n;
   picks = λ k. ap (givenOf s) (sym (h k));
   units = λ k. subst (λ (g : Given). Unitary (g .opt)) (sym (h k)) tt;
-  spans = λ k. subst (λ (g : Given). Within s (g .word)) (sym (h k)) (omega arith);
+  spans = λ k. subst (λ (g : Given). Within s (wordOf g)) (sym (h k)) (omega arith);
 }
 
-module _ {s : List ℕ} {gs : List model.Given} {o : Options} (t : Tied s gs o) (g : Given) (u : Unitary (g .opt)) (i : Within s (g .word)) where
+module _ {s : List ℕ} {gs : List model.Given} {o : Options} (t : Tied s gs o) (g : Given) (u : Unitary (g .opt)) (i : Within s (wordOf g)) where
   group : Kind
   group = optRuleOf (optOf (g .opt)) .group
 
@@ -174,7 +174,7 @@ module _ {s : List ℕ} {gs : List model.Given} {o : Options} (t : Tied s gs o) 
     still-free k e = t .picks k ∙ (ap (λ (i : ℕ). givenOf s (getD (o .groups) i blank)) e ∙ rw h)
 
     picked : (k : Kind) (b c : Bool) → eqb (kindNo k) (kindNo group) ≡ b → g .given ≡ c
-        → pick k (cond c (givenBy (g .opt) (bytesOf s (g .word)) ∷ gs) gs) ≡ givenOf s (put k)
+        → pick k (cond c (givenBy (g .opt) (bytesOf s (wordOf g)) ∷ gs) gs) ≡ givenOf s (put k)
     unfolding group
     picked k true true e p = rw e (sym (ap (givenOf s) (put-there k (eqb-true (kindNo k) (kindNo group) e)) ∙ rw p))
     picked k true false e p =
@@ -190,7 +190,7 @@ module _ {s : List ℕ} {gs : List model.Given} {o : Options} (t : Tied s gs o) 
       ten = length-set (o .groups) (kindNo group) g ∙ t .ten;
       picks = λ k. picked k (eqb (kindNo k) (kindNo group)) (g .given) refl refl;
       units = λ k. kept (λ g. Unitary (g .opt)) u (t .units) k (eqb (kindNo k) (kindNo group)) refl;
-      spans = λ k. kept (λ g. Within s (g .word)) i (t .spans) k (eqb (kindNo k) (kindNo group)) refl;
+      spans = λ k. kept (λ g. Within s (wordOf g)) i (t .spans) k (eqb (kindNo k) (kindNo group)) refl;
     }
 
 -- ---- what stands in a group is of that group
@@ -227,5 +227,5 @@ pub group-number : {s : List ℕ} {gs : List model.Given} {o : Options} → Tied
 group-number {s} {gs} {o} t k h e =
     let g = groupAt o k in
     let same : kindNo k ≡ kindNo (optRuleOf (optOf (g .opt)) .group) =
-    eqb-true (kindNo k) (kindNo (optRuleOf (optOf (g .opt)) .group)) (pick-group k gs {g = givenBy (g .opt) (bytesOf s (g .word))} (t .picks k ∙ rw e)) in
+    eqb-true (kindNo k) (kindNo (optRuleOf (optOf (g .opt)) .group)) (pick-group k gs {g = givenBy (g .opt) (bytesOf s (wordOf g))} (t .picks k ∙ rw e)) in
     by-group (optOf (g .opt)) (subst (λ (n : ℕ). leb 3 n && leb n 6 ≡ true) same h) ∙ ap numberBy (sym same)

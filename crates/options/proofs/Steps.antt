@@ -20,7 +20,7 @@ use Rattle.command.specs.declared.Opt.{Opt}
 use Rattle.command.specs.declared.Spelled.{Spelled}
 use Rattle.command.specs.declared.Spelled.the-variants as Spelled
 use Rattle.options.specs.Places.{placeOf}
-use Rattle.options.specs.Options.{optOf, Unitary, Within, Tied, groupAt, waitingOf, withGiven, newOption, takenAs, Reads}
+use Rattle.options.specs.Options.{optOf, wordOf, Unitary, Within, Tied, groupAt, waitingOf, withGiven, newOption, takenAs, Reads}
 use Rattle.options.specs.declared.Given.{Given}
 use Rattle.options.specs.declared.Options.{Options}
 use Rattle.options.specs.declared.Taken.{Taken}
@@ -63,7 +63,7 @@ module _ (r : Rule) (gs : List model.Given) (w : List ℕ) (ws : List (List ℕ)
 -- what holds after a word that makes the option g of the one last read: g is taken if its group is free
 pub record Turn (r : Rule) (s : List ℕ) (gs : List model.Given) (last : Given) (w : List ℕ) (ws : List (List ℕ)) (g : Given) : Type 0 where
   pub unit : Unitary (g .opt)
-  pub within : Within s (g .word)
+  pub within : Within s (wordOf g)
   pub taken : has (optRuleOf (optOf (g .opt)) .group) gs ≡ false → readOptions r gs (waitingOf last) (w ∷ ws) ≡ readOptions r (withGiven s g gs) (waitingOf g) ws
   pub refused : has (optRuleOf (optOf (g .opt)) .group) gs ≡ true → readOptions r gs (waitingOf last) (w ∷ ws) ≡ none
 
@@ -88,7 +88,7 @@ module _ (n : model.Name) (s : List ℕ) (gs : List model.Given) (last : Given) 
   whole = readOptions rule gs (waitingOf last) (w ∷ ws)
 
   turn-number : last .given ≡ false → Waits gs last → bytesOf s word ≡ w → Within s word
-      → Turn rule s gs last w ws (record { given = true; opt = last .opt; word = word })
+      → Turn rule s gs last w ws (record { given = true; opt = last .opt; start = word .start; end = word .end })
   turn-number p d e i = record {
     unit = d .unit;
     within = i;
@@ -103,7 +103,7 @@ module _ (n : model.Name) (s : List ℕ) (gs : List model.Given) (last : Given) 
     awake = ap (λ (x : Option model.Opt). readOptions rule gs x (w ∷ ws)) (waiting-none last p)
 
     new : Opt → Option Number → Given
-    new x m = record { given = not (isSome m); opt = x; word = record { start = 0; end = 0 } }
+    new x m = record { given = not (isSome m); opt = x; start = 0; end = 0 }
 
     -- an option waits where a number follows, and is given at once where none does
     given-new : (x : Opt) (m : Option Number) → readOptions rule (givenAt m (optOf x) gs) (waitsFor m (optOf x)) ws ≡ readOptions rule (withGiven s (new x m) gs) (waitingOf (new x m)) ws
@@ -115,7 +115,7 @@ module _ (n : model.Name) (s : List ℕ) (gs : List model.Given) (last : Given) 
       admitted : (b : Bool) → has (optRuleOf (optOf x) .group) gs ≡ b → admits rule gs (optOf x) ≡ not b
       admitted b q = ap (λ (t : Bool). t && not (has (optRuleOf (optOf x) .group) gs)) h ∙ ap not q
 
-      turn-new : Turn rule s gs last w ws (record { given = not (isSome (optRuleOf (optOf x) .number)); opt = x; word = record { start = 0; end = 0 } })
+      turn-new : Turn rule s gs last w ws (record { given = not (isSome (optRuleOf (optOf x) .number)); opt = x; start = 0; end = 0 })
       unfolding new
       turn-new = record {
         unit = found-unit (uppers w) x e;
@@ -130,11 +130,11 @@ module _ (n : model.Name) (s : List ℕ) (gs : List model.Given) (last : Given) 
       turn-spelled (Spelled.Known x) q e = go (takes (rule .kinds) (optRuleOf (optOf x) .kind)) refl e
         where
           go : (b : Bool) → takes (rule .kinds) (optRuleOf (optOf x) .kind) ≡ b
-              → cond b (Taken.As (record { given = not (isSome (optRuleOf (optOf x) .number)); opt = x; word = record { start = 0; end = 0 } })) Taken.Wrong ≡ Taken.As g
+              → cond b (Taken.As (record { given = not (isSome (optRuleOf (optOf x) .number)); opt = x; start = 0; end = 0 })) Taken.Wrong ≡ Taken.As g
               → Turn rule s gs last w ws g
           go false h e = wrong-as e
           go true h e =
-              let same : _≡_ {A = Given} (record { given = not (isSome (optRuleOf (optOf x) .number)); opt = x; word = record { start = 0; end = 0 } }) g = cc in
+              let same : _≡_ {A = Given} (record { given = not (isSome (optRuleOf (optOf x) .number)); opt = x; start = 0; end = 0 }) g = cc in
               subst (Turn rule s gs last w ws) same (turn-new x (spelled-known _ q) h)
 
     wrong-spelled : (x : Spelled) → spelledFrom (look (uppers w) options) ≡ x → newOption n x ≡ Taken.Wrong → whole ≡ none
@@ -142,7 +142,7 @@ module _ (n : model.Name) (s : List ℕ) (gs : List model.Given) (last : Given) 
     wrong-spelled (Spelled.Known x) q e = go (takes (rule .kinds) (optRuleOf (optOf x) .kind)) refl e
       where
         go : (b : Bool) → takes (rule .kinds) (optRuleOf (optOf x) .kind) ≡ b
-            → cond b (Taken.As (record { given = not (isSome (optRuleOf (optOf x) .number)); opt = x; word = record { start = 0; end = 0 } })) Taken.Wrong ≡ Taken.Wrong
+            → cond b (Taken.As (record { given = not (isSome (optRuleOf (optOf x) .number)); opt = x; start = 0; end = 0 })) Taken.Wrong ≡ Taken.Wrong
             → whole ≡ none
         go true h e = as-wrong e
         go false h e =
@@ -155,11 +155,11 @@ module _ (n : model.Name) (s : List ℕ) (gs : List model.Given) (last : Given) 
   turn {g} d v i e = go (last .given) refl e
     where
       go : (b : Bool) → last .given ≡ b
-          → cond b (newOption n (spelledFrom (look (uppers w) options))) (Taken.As (record { given = true; opt = last .opt; word = word })) ≡ Taken.As g
+          → cond b (newOption n (spelledFrom (look (uppers w) options))) (Taken.As (record { given = true; opt = last .opt; start = word .start; end = word .end })) ≡ Taken.As g
           → Turn rule s gs last w ws g
       go true p e = turn-spelled p (spelledFrom (look (uppers w) options)) refl e
       go false p e =
-          let same : _≡_ {A = Given} (record { given = true; opt = last .opt; word = word }) g = cc in
+          let same : _≡_ {A = Given} (record { given = true; opt = last .opt; start = word .start; end = word .end }) g = cc in
           subst (Turn rule s gs last w ws) same (turn-number p d v i)
 
   -- a word that is wrong
@@ -167,7 +167,7 @@ module _ (n : model.Name) (s : List ℕ) (gs : List model.Given) (last : Given) 
   turn-wrong e = go (last .given) refl e
     where
       go : (b : Bool) → last .given ≡ b
-          → cond b (newOption n (spelledFrom (look (uppers w) options))) (Taken.As (record { given = true; opt = last .opt; word = word })) ≡ Taken.Wrong
+          → cond b (newOption n (spelledFrom (look (uppers w) options))) (Taken.As (record { given = true; opt = last .opt; start = word .start; end = word .end })) ≡ Taken.Wrong
           → whole ≡ none
       go true p e = wrong-spelled p (spelledFrom (look (uppers w) options)) refl e
       go false p e = as-wrong e

@@ -42,9 +42,13 @@ optOf (Opt.Plain w) = model.plain (plainOf w)
 abbrev pub givenBy : Opt → List ℕ → model.Given
 givenBy o w = record { opt = optOf o; word = w }
 
+-- where the word of an option's number stands
+abbrev pub wordOf : Given → Span
+wordOf g = record { start = g .start; end = g .end }
+
 -- the option of a group, if one is given; the word of its number stands in the command's bytes s
 abbrev pub givenOf : List ℕ → Given → Option model.Given
-givenOf s g = cond (g .given) (some (givenBy (g .opt) (bytesOf s (g .word)))) none
+givenOf s g = cond (g .given) (some (givenBy (g .opt) (bytesOf s (wordOf g)))) none
 
 -- a time word's unit is not 0
 abbrev pub Unitary : Opt → Type 0
@@ -71,7 +75,7 @@ kindsOf n = map (λ k. cond (takes (ruleOf n .kinds) k) 1 0) allKinds
 
 -- what stands past the end of an array of groups
 abbrev pub blank : Given
-blank = record { given = false; opt = Opt.Time 0 false; word = record { start = 0; end = 0 } }
+blank = record { given = false; opt = Opt.Time 0 false; start = 0; end = 0 }
 
 -- the option of a group
 abbrev pub groupAt : Options → Kind → Given
@@ -82,7 +86,7 @@ pub record Tied (s : List ℕ) (gs : List model.Given) (o : Options) : Type 0 wh
   pub ten : length (o .groups) ≡ 10
   pub picks : (k : Kind) → pick k gs ≡ givenOf s (groupAt o k)
   pub units : (k : Kind) → Unitary (groupAt o k .opt)
-  pub spans : (k : Kind) → Within s (groupAt o k .word)
+  pub spans : (k : Kind) → Within s (wordOf (groupAt o k))
 
 -- ---- word by word
 
@@ -92,7 +96,7 @@ waitingOf g = cond (g .given) none (some (optOf (g .opt)))
 
 -- the options gs, and g where it is given
 abbrev pub withGiven : List ℕ → Given → List model.Given → List model.Given
-withGiven s g gs = cond (g .given) (givenBy (g .opt) (bytesOf s (g .word)) ∷ gs) gs
+withGiven s g gs = cond (g .given) (givenBy (g .opt) (bytesOf s (wordOf g)) ∷ gs) gs
 
 -- an option that a word spells: the command must take it, and it waits where a number follows
 abbrev pub newOption : model.Name → Spelled → Taken
@@ -100,12 +104,12 @@ newOption n Spelled.Unknown = Taken.Wrong
 newOption n (Spelled.Known x) =
     let r = optRuleOf (optOf x) in
     cond (takes (ruleOf n .kinds) (r .kind))
-    (Taken.As (record { given = not (isSome (r .number)); opt = x; word = record { start = 0; end = 0 } }))
+    (Taken.As (record { given = not (isSome (r .number)); opt = x; start = 0; end = 0 }))
     Taken.Wrong
 
 -- what a word at the span `word` makes of the option last read
 abbrev pub takenAs : model.Name → (last : Given) → (word : Span) → Spelled → Taken
-takenAs n last word x = cond (last .given) (newOption n x) (Taken.As (record { given = true; opt = last .opt; word = word }))
+takenAs n last word x = cond (last .given) (newOption n x) (Taken.As (record { given = true; opt = last .opt; start = word .start; end = word .end }))
 
 -- what the reading answers
 abbrev pub Reads : List ℕ → Option (List model.Given) → Collected → Type 0

@@ -8,9 +8,10 @@ use resp::Word;
 ghost use mathlib.Core.Path.{_≡_};
 ghost use mathlib.Core.List.{List, []};
 ghost use mathlib.Core.Option.{none};
-ghost use Prim.Native.Nat.{ℕ};
+ghost use Prim.Native.Nat.{ℕ, _≤_};
 ghost use lib.ListN.{drop};
 ghost use Rattle.model.specs.Bytes.{uppers};
+ghost use Rattle.model.specs.Resp.{commandLimit};
 ghost use Rattle.model.specs.Command.{kindNo, optRuleOf, ruleOf, isSome, look, options, readOptions};
 ghost use Rattle.command.specs.Command.{wordsOf};
 ghost use Rattle.command.specs.Words.{nameOf, spelledFrom};
@@ -36,11 +37,13 @@ pub const WITHVERSION: usize = 8;
 
 pub const WITHFLAGS: usize = 9;
 
-// An option and the word of its number. It is given once that word is read, or at once where no number follows.
+// An option and where the word of its number stands, in 16 bits, since all groups are copied whole. It is given once that word is read, or at
+// once where no number follows.
 pub struct Given {
     pub given: bool,
     pub opt: Opt,
-    pub word: Span,
+    pub start: u16,
+    pub end: u16,
 }
 
 // The options of a command, by the numbers of their groups.
@@ -143,7 +146,8 @@ fn no_options() -> Options
     let none = Given {
         given: false,
         opt: Opt::Plain(Plain::Keepttl),
-        word: Span { start: 0, end: 0 },
+        start: 0,
+        end: 0,
     };
     Options { groups: [none; 10] }
 }
@@ -151,6 +155,7 @@ fn no_options() -> Options
 // What the word `w` at the span `word` makes of the option last read: one that waits is given, with the word as its number's; else the word
 // spells another option, which the command must take.
 fn take_word(name: Name, last: Given, w: &[u8], word: Span) -> Taken
+    requires { ⌜ (word .start ≤ word .end) × (word .end ≤ commandLimit) ⌝ }
     ensures { λ r. ⌜ r ≡ takenAs (nameOf name) last word (spelledFrom (look (uppers (now (w .entry))) options)) ⌝ }
 {
     let opt = last.opt;
@@ -161,11 +166,11 @@ fn take_word(name: Name, last: Given, w: &[u8], word: Span) -> Taken
         let takes = kinds(name);
         let kind = kind_of(opt);
         if takes[kind] == 1 {
-            let word = Span { start: 0, end: 0 };
             return Taken::As(Given {
                 given: !numbered(opt),
                 opt,
-                word,
+                start: 0,
+                end: 0,
             });
         }
         return Taken::Wrong;
@@ -173,7 +178,8 @@ fn take_word(name: Name, last: Given, w: &[u8], word: Span) -> Taken
     Taken::As(Given {
         given: true,
         opt,
-        word,
+        start: word.start as u16,
+        end: word.end as u16,
     })
 }
 
@@ -186,7 +192,8 @@ pub fn read_options(s: &[u8], name: Name, at: usize, first: usize, count: usize)
     let mut last = Given {
         given: true,
         opt: Opt::Plain(Plain::Keepttl),
-        word: Span { start: 0, end: 0 },
+        start: 0,
+        end: 0,
     };
     let mut place = at;
     let mut i = first;

@@ -20,7 +20,7 @@ use Rattle.command.specs.declared.Presence.{Presence}
 use Rattle.command.specs.declared.Presence.the-variants as Presence
 use Rattle.command.specs.declared.Bound.the-variants as Bound
 use Rattle.command.specs.declared.Opt.{Opt}
-use Rattle.options.specs.Options.{optOf, givenBy, givenOf}
+use Rattle.options.specs.Options.{optOf, givenBy, wordOf, givenOf}
 use Rattle.options.specs.declared.Given.{Given}
 use Rattle.values.specs.Values.{isAbsolute, changeSaid, flagsSaid, boundSaid}
 use Rattle.values.specs.declared.ReadChange.the-variants as ReadChange
@@ -30,11 +30,11 @@ use Rattle.values.specs.declared.ReadBound.the-variants as ReadBound
 -- ---- given or not
 
 module _ {X : Type 0} (f : Option model.Given → X) (s : List ℕ) (g : Given) where
-  pub of-given : {x : Opt} → g .given ≡ true → g .opt ≡ x → f (givenOf s g) ≡ f (some (givenBy x (bytesOf s (g .word))))
-  of-given {x} e o = ap (λ (b : Bool). f (cond b (some (givenBy (g .opt) (bytesOf s (g .word)))) none)) e ∙ ap (λ (y : Opt). f (some (givenBy y (bytesOf s (g .word))))) o
+  pub of-given : {x : Opt} → g .given ≡ true → g .opt ≡ x → f (givenOf s g) ≡ f (some (givenBy x (bytesOf s (wordOf g))))
+  of-given {x} e o = ap (λ (b : Bool). f (cond b (some (givenBy (g .opt) (bytesOf s (wordOf g)))) none)) e ∙ ap (λ (y : Opt). f (some (givenBy y (bytesOf s (wordOf g))))) o
 
   pub of-none : g .given ≡ false → f (givenOf s g) ≡ f none
-  of-none e = ap (λ (b : Bool). f (cond b (some (givenBy (g .opt) (bytesOf s (g .word)))) none)) e
+  of-none e = ap (λ (b : Bool). f (cond b (some (givenBy (g .opt) (bytesOf s (wordOf g)))) none)) e
 
 pub presence-back : (p : Presence) → presenceFrom (presenceOf p) ≡ p
 presence-back Presence.Always = refl
@@ -56,18 +56,18 @@ unfolding readFlags
 flags-small w {n} e = ltb-true n flagsLimit (only-some (λ n. ltb n flagsLimit) (readInt w >>= natural) n e .1)
 
 module _ (s : List ℕ) (g : Given) (h : g .given ≡ true) where
-  pub bound-read : (o : Option ℤ) → optRuleOf (optOf (g .opt)) .number ≡ some model.signed → readSigned (bytesOf s (g .word)) ≡ o
+  pub bound-read : (o : Option ℤ) → optRuleOf (optOf (g .opt)) .number ≡ some model.signed → readSigned (bytesOf s (wordOf g)) ≡ o
       → boundSaid (givenOf s g) ≡ cond (isSome o) (ReadBound.Value (Bound.At (Option·getD o (pos 0)))) ReadBound.Bad
   bound-read o r e =
-      let w = bytesOf s (g .word) in
+      let w = bytesOf s (wordOf g) in
       of-given boundSaid s g h refl
       ∙ (ap (λ (n : Option Number). cond (isNumber n w) (ReadBound.Value (Bound.At (model.signedOf w))) ReadBound.Bad) r
       ∙ ap (λ (o : Option ℤ). cond (isSome o) (ReadBound.Value (Bound.At (Option·getD o (pos 0)))) ReadBound.Bad) e)
 
-  pub flags-read : (o : Option ℕ) → optRuleOf (optOf (g .opt)) .number ≡ some model.flags → readFlags (bytesOf s (g .word)) ≡ o
+  pub flags-read : (o : Option ℕ) → optRuleOf (optOf (g .opt)) .number ≡ some model.flags → readFlags (bytesOf s (wordOf g)) ≡ o
       → flagsSaid (givenOf s g) ≡ cond (isSome o) (ReadFlags.Value (Option·getD o 0)) ReadFlags.Bad
   flags-read o r e =
-      let w = bytesOf s (g .word) in
+      let w = bytesOf s (wordOf g) in
       of-given flagsSaid s g h refl
       ∙ (ap (λ (n : Option Number). cond (isNumber n w) (ReadFlags.Value (model.flagsOf w)) ReadFlags.Bad) r
       ∙ ap (λ (o : Option ℕ). cond (isSome o) (ReadFlags.Value (Option·getD o 0)) ReadFlags.Bad) e)
@@ -86,11 +86,11 @@ module _ (s : List ℕ) (g : Given) (h : g .given ≡ true) where
   change-by (model.plain model.WITHVERSION) n e = let z : _≡_ {A = ℕ} 0 1 = cc in absurd (omega arith)
   change-by (model.plain model.WITHFLAGS) n e = let z : _≡_ {A = ℕ} 0 1 = cc in absurd (omega arith)
 
-  pub change-read : (o : Option ℕ) → optRuleOf (optOf (g .opt)) .number ≡ some model.natural → readVersion (bytesOf s (g .word)) ≡ o
+  pub change-read : (o : Option ℕ) → optRuleOf (optOf (g .opt)) .number ≡ some model.natural → readVersion (bytesOf s (wordOf g)) ≡ o
       → changeSaid (givenOf s g)
       ≡ cond (isSome o) (ReadChange.Value (changeFrom (cond (isAbsolute (optOf (g .opt))) (model.set (Option·getD o 0)) (model.raise (some (Option·getD o 0)))))) ReadChange.Bad
   change-read o r e =
-      let w = bytesOf s (g .word) in
+      let w = bytesOf s (wordOf g) in
       let x = optOf (g .opt) in
       of-given changeSaid s g h refl
       ∙ (ap (λ (n : Option Number). cond (isNumber n w) (ReadChange.Value (changeFrom (model.changeBy x (model.versionOf w)))) ReadChange.Bad) r

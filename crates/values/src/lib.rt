@@ -13,8 +13,8 @@ ghost use mathlib.Core.List.{List};
 ghost use Prim.Native.Nat.{ℕ, _+_, _*_, _≤_};
 ghost use Rattle.model.specs.Table.{timeLimit};
 ghost use Rattle.model.specs.Command.{Given as ModelGiven, signed, natural, flags, at, natOf, ordered};
-ghost use Rattle.command.specs.Command.{boundOf};
-ghost use Rattle.options.specs.Options.{Unitary, Within, optOf, givenOf, Tied};
+ghost use Rattle.command.specs.Command.{bytesOf, boundOf};
+ghost use Rattle.options.specs.Options.{Unitary, Within, optOf, wordOf, givenOf, Tied};
 ghost use Rattle.values.specs.Values.{Follows, isAbsolute, presenceSaid, changeSaid, flagsSaid, boundSaid, timeNumber, numbersSaid, expiryTested, expireSaid};
 
 // What becomes of the version, or that the number is wrong.
@@ -90,15 +90,23 @@ fn is_absolute(opt: Opt) -> bool
     }
 }
 
+// The word of an option's number.
+fn number_word(s: &[u8], g: Given) -> &[u8]
+    requires { ⌜ Within (now s) (wordOf g) ⌝ }
+    ensures { λ r. ⌜ now r ≡ bytesOf (now (s .entry)) (wordOf g) ⌝ }
+{
+    let start = g.start as usize;
+    let end = g.end as usize;
+    &s[start..end]
+}
+
 // The change of the version that VER or ABS asks for.
 pub fn change_of(s: &[u8], g: Given) -> ReadChange
-    requires { ⌜ Within (now s) (g .word) × Follows natural g ⌝ }
+    requires { ⌜ Within (now s) (wordOf g) × Follows natural g ⌝ }
     ensures { λ r. ⌜ r ≡ changeSaid (givenOf (now (s .entry)) g) ⌝ }
 {
     if g.given {
-        let start = g.word.start;
-        let end = g.word.end;
-        let Natural::Value(n) = number::read_version(&s[start..end]) else {
+        let Natural::Value(n) = number::read_version(number_word(s, g)) else {
             return ReadChange::Bad;
         };
         let opt = g.opt;
@@ -112,13 +120,11 @@ pub fn change_of(s: &[u8], g: Given) -> ReadChange
 
 // The flags that FLAGS sets.
 pub fn flags_of(s: &[u8], g: Given) -> ReadFlags
-    requires { ⌜ Within (now s) (g .word) × Follows flags g ⌝ }
+    requires { ⌜ Within (now s) (wordOf g) × Follows flags g ⌝ }
     ensures { λ r. ⌜ r ≡ flagsSaid (givenOf (now (s .entry)) g) ⌝ }
 {
     if g.given {
-        let start = g.word.start;
-        let end = g.word.end;
-        let Natural::Value(n) = number::read_flags(&s[start..end]) else {
+        let Natural::Value(n) = number::read_flags(number_word(s, g)) else {
             return ReadFlags::Bad;
         };
         return ReadFlags::Value(n as u32);
@@ -128,13 +134,11 @@ pub fn flags_of(s: &[u8], g: Given) -> ReadFlags
 
 // The bound that MIN or MAX sets.
 pub fn bound_of(s: &[u8], g: Given) -> ReadBound
-    requires { ⌜ Within (now s) (g .word) × Follows signed g ⌝ }
+    requires { ⌜ Within (now s) (wordOf g) × Follows signed g ⌝ }
     ensures { λ r. ⌜ r ≡ boundSaid (givenOf (now (s .entry)) g) ⌝ }
 {
     if g.given {
-        let start = g.word.start;
-        let end = g.word.end;
-        let Signed::Value(z) = number::read_signed(&s[start..end]) else {
+        let Signed::Value(z) = number::read_signed(number_word(s, g)) else {
             return ReadBound::Bad;
         };
         return ReadBound::Value(Bound::At(z));
@@ -144,18 +148,16 @@ pub fn bound_of(s: &[u8], g: Given) -> ReadBound
 
 // The number of a time word; 0 where none is given.
 pub fn time_number(s: &[u8], g: Given) -> Signed
-    requires { ⌜ Within (now s) (g .word) ⌝ }
+    requires { ⌜ Within (now s) (wordOf g) ⌝ }
     ensures { λ r. ⌜ r ≡ timeNumber (givenOf (now (s .entry)) g) ⌝ }
 {
     if g.given {
         let opt = g.opt;
-        let start = g.word.start;
-        let end = g.word.end;
         return match opt {
             Opt::Time {
                 unit: _,
                 from_now: _,
-            } => number::read_signed(&s[start..end]),
+            } => number::read_signed(number_word(s, g)),
             Opt::Presence(_) => Signed::Value(0),
             Opt::Version { absolute: _ } => Signed::Value(0),
             Opt::Plain(_) => Signed::Value(0),
@@ -223,9 +225,9 @@ pub fn expire_of(time: u64, keeps: bool, g: Given, z: i64) -> ReadExpire
         return match opt {
             Opt::Time { unit, from_now } => {
                 if from_now {
-                    return expiry(time, unit, z);
+                    return expiry(time, unit as u64, z);
                 }
-                expiry(0, unit, z)
+                expiry(0, unit as u64, z)
             }
             Opt::Presence(_) => ReadExpire::Value(Expire::Keep),
             Opt::Version { absolute: _ } => ReadExpire::Value(Expire::Keep),

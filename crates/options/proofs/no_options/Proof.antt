@@ -13,7 +13,7 @@ use Rattle.options.proofs.no_options.Statement.{statement}
 use Rattle.options.proofs.no_options.Tie as tie
 
 absent : Given
-absent = record { given = false; opt = Opt.Plain Plain.Keepttl; word = record { start = 0; end = 0 } }
+absent = record { given = false; opt = Opt.Plain Plain.Keepttl; start = 0; end = 0 }
 
 none-there : (k : Kind) → getD (replicate 10 absent) (kindNo k) blank ≡ absent
 none-there model.timeWord = refl

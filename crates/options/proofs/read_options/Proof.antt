@@ -125,7 +125,10 @@ part-take-word-end : tie.Need-part-take-word-end Inv-loop μ-loop
 part-take-word-end c = let w = word (c .before) in omega (arith, w .within)
 
 take-word-requires : tie.Need-take-word-requires Inv-loop μ-loop
-take-word-requires c κs = search needs
+take-word-requires c κs =
+    let s = c .before .before in
+    let w = word s in
+    (w .ordered, omega (arith, w .within, short _ _ (s .before .before .before .before .before .before .before .pre .decoded)))
 
 enum-known-taken : tie.Need-enum-known-taken Inv-loop μ-loop
 enum-known-taken c = search needs

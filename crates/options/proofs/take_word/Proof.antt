@@ -66,7 +66,7 @@ numbered-requires c κs = search needs
 
 -- the option as the test of its kind leaves it
 abbrev tested : (c : tie.After-opt) → (takes : Bool) → (numbered : Bool) → Taken
-tested c b m = cond b (Taken.As (record { given = not m; opt = c .opt .given .0 .0; word = record { start = 0; end = 0 } })) Taken.Wrong
+tested c b m = cond b (Taken.As (record { given = not m; opt = c .opt .given .0 .0; start = 0; end = 0 })) Taken.Wrong
 
 returns-2 : tie.Need-returns-2
 returns-2 c =
@@ -83,8 +83,14 @@ returns-3 c =
     sym (spelled (o .before .before) (o .opt .given .1)
     ∙ ap (λ (b : Bool). tested o b (isSome (optRuleOf (optOf (o .opt .given .0 .0)) .number))) (one-false (takesIt o) (λ e. c .if2 .left (taken k ∙ e))))
 
+cast-t19 : tie.Need-cast-t19
+cast-t19 c = let b = c .before .before .before in record { fits = omega (arith, b .pre .0, b .pre .1) }
+
+cast-t20 : tie.Need-cast-t20
+cast-t20 c = let b = c .before .before .before .before in record { fits = omega (arith, b .pre .1) }
+
 returns-4 : tie.Need-returns-4
-returns-4 c = sym (rw (c .if1 .left))
+returns-4 c = sym (rw (c .before .before .if1 .left))
 
 pub take-word-spec : {M : Type 1} → statement M
 take-word-spec =
@@ -100,4 +106,6 @@ take-word-spec =
     numbered-requires
     returns-2
     returns-3
+    cast-t19
+    cast-t20
     returns-4)

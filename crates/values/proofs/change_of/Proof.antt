@@ -1,10 +1,14 @@
 -- `values::change_of` meets its contract: the word of VER or ABS is read as a version.
+use Prim.Native.Nat.{ℕ}
 use mathlib.Core.Path.{_≡_, sym, ap, _∙_}
 use mathlib.Core.Bool.{Bool, cond}
+use mathlib.Core.List.{List}
 use mathlib.Core.Option.{none, some}
+use Rattle.model.specs.Number.{readVersion}
 use Rattle.model.specs.Command.{set, raise}
-use Rattle.command.specs.Command.{changeFrom}
-use Rattle.options.specs.Options.{optOf, givenOf}
+use Rattle.number.specs.Answer.{naturalFrom}
+use Rattle.command.specs.Command.{bytesOf, changeFrom}
+use Rattle.options.specs.Options.{optOf, wordOf, givenOf}
 use Rattle.values.specs.Values.{isAbsolute, changeSaid}
 use Rattle.values.specs.declared.ReadChange.{ReadChange}
 use Rattle.values.specs.declared.ReadChange.the-variants as ReadChange
@@ -12,6 +16,10 @@ use Rattle.values.proofs.Said.{of-none, natural-bad, natural-value, cha
 use borrow.Author.Needs.{needs}
 use Rattle.values.proofs.change_of.Statement.{statement}
 use Rattle.values.proofs.change_of.Tie as tie
+
+-- what the word says
+read : (c : tie.After-read-version) → let a = c .before .before .before .before .args in c .read-version .result ≡ naturalFrom (readVersion (bytesOf (a .s .now) (wordOf (a .g))))
+read c = c .read-version .ensures ∙ ap (λ (w : List ℕ). naturalFrom (readVersion w)) (c .before .number-word .ensures)
 
 -- the change by the number that was read
 abbrev asked : tie.After-n → (absolute : Bool) → ReadChange
@@ -23,16 +31,10 @@ said c =
     let r = c .before .before in
     let b = r .before .before .before .before in
     let given = r .before .before .if1 .taken in
-    change-read _ (b .args .g) given (some (c .n .given .0 .0)) (b .pre .1 given) (natural-value _ (sym (c .n .given .1) ∙ r .read-version .ensures))
+    change-read _ (b .args .g) given (some (c .n .given .0 .0)) (b .pre .1 given) (natural-value _ (sym (c .n .given .1) ∙ read r))
 
-sub-read-version : tie.Need-sub-read-version
-sub-read-version c = search needs
-
-part-read-version-start : tie.Need-part-read-version-start
-part-read-version-start c = search needs
-
-part-read-version-end : tie.Need-part-read-version-end
-part-read-version-end c = search needs
+number-word-requires : tie.Need-number-word-requires
+number-word-requires c κs = search needs
 
 read-version-requires : tie.Need-read-version-requires
 read-version-requires c κs = search needs
@@ -48,7 +50,7 @@ returns c =
     let r = c .before .before in
     let b = r .before .before .before .before in
     let given = r .before .before .if1 .taken in
-    sym (change-read _ (b .args .g) given none (b .pre .1 given) (natural-bad _ (sym (c .enum-told .given .1) ∙ r .read-version .ensures)))
+    sym (change-read _ (b .args .g) given none (b .pre .1 given) (natural-bad _ (sym (c .enum-told .given .1) ∙ read r)))
 
 is-absolute-requires : tie.Need-is-absolute-requires
 is-absolute-requires c κs = search needs
@@ -70,9 +72,7 @@ pub change-of-spec : {M : Type 1} → statement M
 change-of-spec =
     tie.close
     (tie.spec
-    sub-read-version
-    part-read-version-start
-    part-read-version-end
+    number-word-requires
     read-version-requires
     enum-known-n
     enum-told

@@ -32,6 +32,9 @@ counted c s = let b = c .before .before .before in of-given (said b) s (b .args 
 enum-known-opt : tie.Need-enum-known-opt
 enum-known-opt c = search needs
 
+cast-expiry : tie.Need-cast-expiry
+cast-expiry c = search needs
+
 expiry-requires : tie.Need-expiry-requires
 expiry-requires c κs = (unit (c .before .before), c .before .before .before .before .before .pre .1)
 
@@ -41,6 +44,9 @@ returns c = λ s.
     let b = o .before .before .before in
     simp (back-is (b .fits .z)) at (c .expiry .ensures)
     ∙ sym (counted o s ∙ ap (from o) (c .before .if2 .taken))
+
+cast-expiry-2 : tie.Need-cast-expiry-2
+cast-expiry-2 c = search needs
 
 expiry-requires-2 : tie.Need-expiry-requires-2
 expiry-requires-2 c κs = (unit (c .before .before), omega arith)
@@ -91,8 +97,10 @@ expire-of-spec =
     tie.close
     (tie.spec
     enum-known-opt
+    cast-expiry
     expiry-requires
     returns
+    cast-expiry-2
     expiry-requires-2
     enum-told
     enum-told-2

@@ -9,7 +9,7 @@ use Rattle.model.specs.Command.{Given, Kind, kindNo, pick, optRuleOf, timeWord,
 use Rattle.number.specs.declared.Signed.{Signed}
 use Rattle.number.specs.declared.Signed.the-variants as Signed
 use Rattle.number.proofs.Integers.{back-is}
-use Rattle.options.specs.Options.{optOf, Within, groupAt, Tied}
+use Rattle.options.specs.Options.{optOf, wordOf, Within, groupAt, Tied}
 use Rattle.options.proofs.Groups.{numberBy, group-number}
 use Rattle.values.specs.Values.{timeNumber, changeSaid, flagsSaid, boundSaid, numbersFrom, numbersSaid}
 use Rattle.values.specs.declared.ReadChange.{ReadChange}
@@ -33,7 +33,7 @@ first c = c .before .before .before .before .before
 
 -- what a group's option asks of its reader
 asked : (c : tie.Start) (k : Kind) → leb 3 (kindNo k) && leb (kindNo k) 6 ≡ true → let g = groupAt (c .args .t2) k in
-    Within (c .args .s .now) (g .word) × (g .given ≡ true → optRuleOf (optOf (g .opt)) .number ≡ numberBy (kindNo k))
+    Within (c .args .s .now) (wordOf g) × (g .given ≡ true → optRuleOf (optOf (g .opt)) .number ≡ numberBy (kindNo k))
 asked c k h = let t = c .pre .1 in (t .spans k, group-number t k h)
 
 -- what was read so far

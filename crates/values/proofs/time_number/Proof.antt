@@ -1,22 +1,26 @@
 -- `values::time_number` meets its contract: by whether an option is given, and which.
-use mathlib.Core.Path.{sym, _∙_}
+use Prim.Native.Nat.{ℕ}
+use mathlib.Core.Path.{_≡_, sym, ap, _∙_}
+use mathlib.Core.List.{List}
+use Rattle.model.specs.Number.{readSigned}
+use Rattle.number.specs.Answer.{signedFrom}
+use Rattle.command.specs.Command.{bytesOf}
+use Rattle.options.specs.Options.{wordOf}
 use Rattle.values.specs.Values.{timeNumber}
 use Rattle.values.proofs.Said.{of-given, of-none}
 use borrow.Author.Needs.{needs}
 use Rattle.values.proofs.time_number.Statement.{statement}
 use Rattle.values.proofs.time_number.Tie as tie
 
+-- what the word says
+read : (c : tie.After-read-signed) → let a = c .before .before .before .before .before .before .args in c .read-signed .result ≡ signedFrom (readSigned (bytesOf (a .s .now) (wordOf (a .g))))
+read c = c .read-signed .ensures ∙ ap (λ (w : List ℕ). signedFrom (readSigned w)) (c .before .number-word .ensures)
+
 enum-told : tie.Need-enum-told
 enum-told c = search needs
 
-sub-read-signed : tie.Need-sub-read-signed
-sub-read-signed c = search needs
-
-part-read-signed-start : tie.Need-part-read-signed-start
-part-read-signed-start c = search needs
-
-part-read-signed-end : tie.Need-part-read-signed-end
-part-read-signed-end c = search needs
+number-word-requires : tie.Need-number-word-requires
+number-word-requires c κs = search needs
 
 read-signed-requires : tie.Need-read-signed-requires
 read-signed-requires c κs = search needs
@@ -34,7 +38,7 @@ returns : tie.Need-returns
 returns c =
     let t = c .before .before in
     let b = t .before .before .before .before in
-    c .read-signed .ensures ∙ sym (of-given timeNumber _ (b .args .g) (t .before .before .if1 .taken) (t .enum-told .given .1))
+    read c ∙ sym (of-given timeNumber _ (b .args .g) (t .before .before .if1 .taken) (t .enum-told .given .1))
 
 returns-2 : tie.Need-returns-2
 returns-2 c = sym (of-given timeNumber _ (c .before .before .before .before .args .g) (c .before .before .if1 .taken) (c .enum-told2 .given .1))
@@ -53,9 +57,7 @@ time-number-spec =
     tie.close
     (tie.spec
     enum-told
-    sub-read-signed
-    part-read-signed-start
-    part-read-signed-end
+    number-word-requires
     read-signed-requires
     enum-told-2
     enum-told-3
