@@ -133,8 +133,9 @@ has-given s g = go (g .given)
     go true = refl
     go false = refl
 
-pub has-group : {s : List ℕ} {gs : List model.Given} {o : Options} → Tied s gs o → (k : Kind) → has k gs ≡ groupAt o k .given
-has-group {s} {gs} {o} t k = ap isSome (t .picks k) ∙ has-given s (groupAt o k)
+-- whether a group has an option
+pub has-group : {s : List ℕ} {gs : List model.Given} {o : Options} → Tied s gs o → (k : Kind) → groupAt o k .given ≡ has k gs
+has-group {s} {gs} {o} t k = sym (ap isSome (t .picks k) ∙ has-given s (groupAt o k))
 
 pub tied-none : (s : List ℕ) (l : List Given) (w : Plain) → length l ≡ 10
     → ((k : Kind) → getD l (kindNo k) blank ≡ record { given = false; opt = Opt.Plain w; start = 0; end = 0 }) → Tied s [] (record { groups = l })

@@ -210,13 +210,13 @@ module _ {s : List ℕ} {r : Rule} {first i place : ℕ} {o : Options} {last : G
 
     module _ {g : Given} (d : Turn r s (b .given) last (wordAt i (wordsOf s)) (drop (suc i) (wordsOf s)) g) where
       pub reads-held : groupAt o (optRuleOf (optOf (g .opt)) .group) .given ≡ true → Reads s (readOptions r [] none (drop first (wordsOf s))) (record { number = 8; options = o })
-      reads-held e = reads-wrong (d .refused (has-group (b .tied) (optRuleOf (optOf (g .opt)) .group) ∙ e))
+      reads-held e = reads-wrong (d .refused (sym (has-group (b .tied) (optRuleOf (optOf (g .opt)) .group)) ∙ e))
 
       -- after that word, where the option's group was free
       pub reached-next : {next : ℕ} → next ≡ placeOf (suc i) (wordsOf s) → groupAt o (optRuleOf (optOf (g .opt)) .group) .given ≡ false
           → Reached s r first (i + 1) next (record { groups = set (o .groups) (kindNo (optRuleOf (optOf (g .opt)) .group)) g }) g
       reached-next p e =
-          let free = has-group (b .tied) (optRuleOf (optOf (g .opt)) .group) ∙ e in
+          let free = sym (has-group (b .tied) (optRuleOf (optOf (g .opt)) .group)) ∙ e in
           rw (add-one i) (record {
             there = p;
             most = h;

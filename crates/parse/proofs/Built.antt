@@ -1,24 +1,17 @@
 -- The action of a command that passed every test is the model's.
 use Prim.Native.Nat.{ℕ, _-_, min}
-use mathlib.Core.Path.{_≡_, refl, sym, ap, _∙_}
+use mathlib.Core.Path.{_≡_, refl, ap}
 use mathlib.Core.List.{List}
 use lib.IntN.{ℤ}
 use Rattle.model.specs.Number.{readSigned, readVersion}
 use Rattle.model.specs.Command as model
-use Rattle.model.specs.Command.{Name, Given, Kind, ruleOf, wordAt, pick, has, isSome, build}
+use Rattle.model.specs.Command.{Name, Given, ruleOf, wordAt, pick, build}
 use Rattle.command.specs.Command.{spanAt, expireOf, expireFrom, actionFrom}
 use Rattle.command.specs.declared.Action.the-variants as Action
-use Rattle.options.specs.Options.{groupAt, Tied}
-use Rattle.options.specs.declared.Options.{Options}
-use Rattle.options.proofs.Groups.{has-given}
 use Rattle.arguments.specs.Arguments.{fixedSaid}
 use Rattle.arguments.specs.declared.FixedNumber.the-variants as FixedNumber
 use Rattle.parse.specs.Actions.{keepsOf, saidFrom, actionSaid}
 use Rattle.parse.proofs.Nine.{signed-value, version-value}
-
--- whether a group has an option
-pub has-group : {s : List ℕ} {gs : List Given} {o : Options} → Tied s gs o → (k : Kind) → groupAt o k .given ≡ has k gs
-has-group {s} {gs} {o} t k = sym (ap isSome (t .picks k) ∙ has-given s (groupAt o k))
 
 expire-back : (e : model.Expire) → expireOf (expireFrom e) ≡ e
 expire-back model.clear = refl

@@ -1,22 +1,23 @@
 -- The tests in their order: the first that fails refuses, and what passes is as if it were not tested.
-use Prim.Native.Nat.{ℕ}
+use Prim.Native.Nat.{ℕ, _-_, _≤_}
 use native.Mathlib.Omega.{arith}
 use mathlib.Core.Path.{_≡_, refl, sym, ap, _∙_}
-use mathlib.Core.Bool.{Bool, true, false}
+use mathlib.Core.Bool.{Bool, true, false, not, _&&_, _||_}
 use mathlib.Core.List.{List, []}
 use mathlib.Core.Option.{Option, none, some}
-use lib.ListN.{length, drop}
+use lib.ListN.{length, drop, drop-of-length-le}
 use Rattle.model.specs.Bytes.{all, uppers}
 use Rattle.model.specs.Checked.{Checked, refuse, ok, check, given, _>>=_, _>>_}
 use Rattle.model.specs.Table.{form128}
 use Rattle.model.specs.Command as model
-use Rattle.model.specs.Command.{Command, Name, look, names, parse, Given, ruleOf, wordAt, countOk, sizeTests, pick, timeWord, minWord, maxWord, readOptions, enough, numbersOk, timeOk, boundOf, ordered, build, parseNamed}
+use Rattle.model.specs.Command.{Command, Name, look, names, parse, Given, ruleOf, wordAt, countOk, sizeTests, pick, timeWord, minWord, maxWord, has, readOptions, enough, isNumber, optionNumbers, numbersOk, timeOk, boundOf, ordered, build, parseNamed}
 use Rattle.command.specs.Words.{nameFrom, nameOf, namedFrom}
 use Rattle.command.specs.declared.Name.{Name as CommandName}
 use Rattle.command.specs.declared.Named.the-variants as Named
 use Rattle.options.specs.Options.{Reads, Tied}
 use Rattle.options.specs.declared.Collected.{Collected}
-use Rattle.parse.specs.Tests.{fromNine, fromEight}
+use Rattle.options.proofs.Steps.{none-left}
+use Rattle.parse.specs.Tests.{fromNine, fromEnough, fromEight}
 
 module _ (k : ℕ) (x : Checked Command) {b : Bool} where
   fails : b ≡ false → check k b >> x ≡ refuse k
@@ -67,7 +68,25 @@ module _ (s : List ℕ) (r : Collected) where
 module _ (now : ℕ) (ws : List (List ℕ)) (n : Name) where
   -- the tests from 8 on, after the options are read
   after : Option (List Given) → Checked Command
-  after o = given 8 o >>= λ gs. check 8 (enough (ruleOf n) gs) >> fromNine now ws gs n
+  after o = given 8 o >>= λ gs. fromEnough now ws gs n
+
+  -- no words after the fixed ones are no options
+  pub plain-eight : length ws ≤ ruleOf n .fixed → fromEight now ws n ≡ fromEnough now ws [] n
+  unfolding after
+  plain-eight h = ap after (ap (readOptions (ruleOf n) [] none) (drop-of-length-le ws {i = ruleOf n .fixed} h) ∙ none-left (ruleOf n) [])
+
+  pub plain-timed : ruleOf n .timed ≡ true → fromEnough now ws [] n ≡ refuse 8
+  plain-timed e = fails 8 _ (ap (λ (b : Bool). not b || has timeWord []) e)
+
+  module _ (e : ruleOf n .timed ≡ false) where
+    plain-enough : fromEnough now ws [] n ≡ fromNine now ws [] n
+    plain-enough = passes 8 _ (ap (λ (b : Bool). not b || has timeWord []) e)
+
+    pub plain-nine : isNumber (ruleOf n .number) (wordAt (ruleOf n .fixed - 1) ws) ≡ false → fromEnough now ws [] n ≡ refuse 9
+    plain-nine h = plain-enough ∙ to-nine now ws [] n (ap (λ (b : Bool). b && all (optionNumbers [])) h)
+
+    pub plain-end : isNumber (ruleOf n .number) (wordAt (ruleOf n .fixed - 1) ws) ≡ true → fromEnough now ws [] n ≡ ok (build now ws [] n)
+    plain-end h = plain-enough ∙ to-end now ws [] n (ap (λ (b : Bool). b && all (optionNumbers [])) h) refl refl
 
   pub to-eight : readOptions (ruleOf n) [] none (drop (ruleOf n .fixed) ws) ≡ none → fromEight now ws n ≡ refuse 8
   unfolding after

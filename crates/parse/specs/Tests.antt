@@ -18,12 +18,17 @@ fromNine now ws gs n = do
   check 11 (ordered (boundOf (pick minWord gs)) (boundOf (pick maxWord gs)))
   ok (build now ws gs n)
 
+-- the same after the test that the options gs are enough
+abbrev pub fromEnough : (now : ℕ) → List (List ℕ) → List Given → Name → Checked Command
+fromEnough now ws gs n = do
+  check 8 (enough (ruleOf n) gs)
+  fromNine now ws gs n
+
 -- tests 8 to 11
 abbrev pub fromEight : (now : ℕ) → List (List ℕ) → Name → Checked Command
 fromEight now ws n = do
   gs ← given 8 (readOptions (ruleOf n) [] none (drop (ruleOf n .fixed) ws))
-  check 8 (enough (ruleOf n) gs)
-  fromNine now ws gs n
+  fromEnough now ws gs n
 
 -- the bytes s are a command with the fixed words of the name n, and a says where they stand
 pub record Stands (s : List ℕ) (n : Name) (a : Arguments) : Type 0 where

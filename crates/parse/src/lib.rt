@@ -10,6 +10,7 @@ use command::Expire;
 use command::Name;
 use command::Named;
 use command::Parsed;
+use command::Presence;
 use command::Request;
 use command::Span;
 use options::Options;
@@ -17,19 +18,20 @@ use resp::Word;
 use values::Numbers;
 use values::ReadExpire;
 ghost use mathlib.Core.Path.{_≡_};
-ghost use mathlib.Core.List.{List};
+ghost use mathlib.Core.List.{List, []};
 ghost use mathlib.Core.Option.{some};
 ghost use Prim.Native.Nat.{ℕ, _≤_};
 ghost use lib.ListN.{length};
 ghost use Rattle.model.specs.Resp.{decode};
 ghost use Rattle.model.specs.Table.{form128, timeLimit};
 ghost use Rattle.model.specs.Command.{Given, ruleOf, enough, parseNamed, parse};
-ghost use Rattle.command.specs.Command.{parsedFrom, wordsOf};
+ghost use Rattle.command.specs.Command.{expireFrom, parsedFrom, wordsOf};
 ghost use Rattle.command.specs.Words.{nameOf};
 ghost use Rattle.options.specs.Places.{AtWord};
 ghost use Rattle.options.specs.Options.{Tied};
-ghost use Rattle.parse.specs.Actions.{keepsOf, saidWith};
-ghost use Rattle.parse.specs.Tests.{fromNine, fromEight, Stands};
+ghost use Rattle.values.specs.Values.{otherwise};
+ghost use Rattle.parse.specs.Actions.{keepsOf, saidWith, saidFrom};
+ghost use Rattle.parse.specs.Tests.{fromNine, fromEnough, fromEight, Stands};
 
 // Where the fixed words of a command stand: the key, the value, and the last of them.
 pub struct Arguments {
@@ -140,12 +142,62 @@ fn parse_numbers(s: &[u8], time: u64, name: Name, a: Arguments, o: Options) -> P
     Parsed::Refused(11)
 }
 
+// What becomes of the expiry where no option says so.
+fn expire_unsaid(name: Name) -> Expire
+    ensures { λ r. ⌜ r ≡ expireFrom (otherwise (keepsOf (nameOf name))) ⌝ }
+{
+    if keeps(name) {
+        return Expire::Keep;
+    }
+    Expire::Clear
+}
+
+// What a command without options says.
+fn unsaid(name: Name) -> Said
+    ensures { λ r. ⌜ ((time : ℕ) → r ≡ saidFrom time (keepsOf (nameOf name)) []) ⌝ }
+{
+    let expire = expire_unsaid(name);
+    Said {
+        presence: Presence::Always,
+        change: Change::Raise,
+        expire,
+        flags: 0,
+        min: Bound::Open,
+        max: Bound::Open,
+        nonnegative: false,
+        withversion: false,
+        withflags: false,
+    }
+}
+
+// The command of a name and its fixed words without options: tests 8 and 9. It looks into no groups, since most commands are such.
+fn parse_plain(s: &[u8], name: Name, a: Arguments) -> Parsed
+    requires { ⌜ Stands (now s) (nameOf name) a ⌝ }
+    ensures { λ r. ⌜ ((time : ℕ) → r ≡ parsedFrom (wordsOf (now (s .entry))) (fromEnough time (wordsOf (now (s .entry))) [] (nameOf name))) ⌝ }
+{
+    if timed(name) {
+        return Parsed::Refused(8);
+    }
+    let key = a.key;
+    let value = a.value;
+    let last = a.last;
+    let FixedNumber::Value { by, version } = arguments::fixed_number(s, name, last) else {
+        return Parsed::Refused(9);
+    };
+    let action = action::action_of(name, value, by, version, unsaid(name));
+    Parsed::Request(Request { key, action })
+}
+
 // The command of a name and its fixed words, with its options from the place `at` on: tests 8 to 11.
 fn parse_options(s: &[u8], count: usize, time: u64, name: Name, a: Arguments, at: usize) -> Parsed
     requires { ⌜ Stands (now s) (nameOf name) a × AtWord (now s) count (ruleOf (nameOf name) .fixed) at × (time ≤ timeLimit) ⌝ }
     ensures { λ r. ⌜ r ≡ parsedFrom (wordsOf (now (s .entry))) (fromEight time (wordsOf (now (s .entry))) (nameOf name)) ⌝ }
 {
-    let c = options::read_options(s, name, at, arguments::fixed_count(name), count);
+    let fixed = arguments::fixed_count(name);
+    if count <= fixed {
+        return parse_plain(s, name, a);
+    }
+    let c = options::read_options(s, name, at, fixed, count);
     let options = c.options;
     if c.number != 0 {
         return Parsed::Refused(c.number);

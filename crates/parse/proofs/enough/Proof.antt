@@ -2,7 +2,7 @@
 use mathlib.Core.Path.{sym, ap, _∙_}
 use mathlib.Core.Bool.{Bool, not, _||_}
 use Rattle.model.specs.Command.{timeWord, has}
-use Rattle.parse.proofs.Built.{has-group}
+use Rattle.options.proofs.Groups.{has-group}
 use borrow.Author.Needs.{needs}
 use Rattle.parse.proofs.enough.Statement.{statement}
 use Rattle.parse.proofs.enough.Tie as tie

@@ -1,7 +1,6 @@
 -- `parse::parse_numbers` meets its contract: the numbers, the expiry and the bounds are the model's, so its tests 9 to 11 and its command are.
-use Prim.Native.Nat.{ℕ, _-_, _≤_, _<_, min}
-use native.Mathlib.Omega.{arith}
-use mathlib.Core.Path.{_≡_, sym, ap, _∙_, subst}
+use Prim.Native.Nat.{ℕ, _-_}
+use mathlib.Core.Path.{_≡_, sym, ap, _∙_}
 use mathlib.Core.Bool.{Bool, true, cond, _&&_}
 use mathlib.Core.List.{List}
 use lib.IntN.{ℤ}
@@ -9,38 +8,25 @@ use mir.Syntax.{w64}
 use mir.Val.{SFits}
 use Rattle.model.specs.Bytes.{all}
 use Rattle.model.specs.Command as model
-use Rattle.model.specs.Command.{Name, Given, ruleOf, wordAt, pick, timeWord, minWord, maxWord, isNumber, optionNumbers, numbersOk, timeOk, build}
+use Rattle.model.specs.Command.{Given, ruleOf, wordAt, pick, timeWord, minWord, maxWord, isNumber, optionNumbers, numbersOk, timeOk, build}
 use Rattle.number.proofs.Integers.{back-is}
-use Rattle.command.specs.Command.{bytesOf, boundOf, expireFrom, actionFrom, parsedFrom, wordsOf}
+use Rattle.command.specs.Command.{boundOf, expireFrom, actionFrom, parsedFrom, wordsOf}
 use Rattle.command.specs.Words.{nameOf}
-use Rattle.command.specs.declared.Span.{Span}
 use Rattle.command.specs.declared.Parsed.the-variants as Parsed
-use Rattle.options.specs.Options.{Within, givenOf, groupAt, Tied}
+use Rattle.options.specs.Options.{givenOf, groupAt, Tied}
 use Rattle.values.specs.Values.{otherwise, expireSaid}
 use Rattle.values.specs.declared.ReadExpire.the-variants as ReadExpire
 use Rattle.arguments.specs.Arguments.{fixedSaid}
 use Rattle.arguments.specs.declared.FixedNumber.{FixedNumber}
 use Rattle.arguments.specs.declared.FixedNumber.the-variants as FixedNumber
 use Rattle.parse.specs.Actions.{keepsOf, saidFrom, actionSaid}
-use Rattle.parse.proofs.Spans.{span-bytes, span-within}
+use Rattle.parse.proofs.Spans.{last-said, last-within}
 use Rattle.parse.proofs.Order.{to-nine, to-ten, to-eleven, to-end}
 use Rattle.parse.proofs.Nine.{fixed-bad, fixed-value, timeOf, numbers-bad, Read, numbers-read, expire-cond, expire-bad, expire-value, bound-back}
 use Rattle.parse.proofs.Built.{built}
 use borrow.Author.Needs.{needs}
 use Rattle.parse.proofs.parse_numbers.Statement.{statement}
 use Rattle.parse.proofs.parse_numbers.Tie as tie
-
-last-word : (n : Name) {k : ℕ} → ruleOf n .fixed ≤ k → ruleOf n .fixed - 1 < k
-last-word model.EXSET h = omega arith
-last-word model.EXGET h = omega arith
-last-word model.EXSETVER h = omega arith
-last-word model.EXINCRBY h = omega arith
-last-word model.EXCAS h = omega arith
-last-word model.EXCAD h = omega arith
-last-word model.EXAPPEND h = omega arith
-last-word model.EXPREPEND h = omega arith
-last-word model.EXGAE h = omega arith
-last-word model.DEL h = omega arith
 
 abbrev words : tie.Start → List (List ℕ)
 words c = wordsOf (c .args .s .now)
@@ -49,18 +35,9 @@ words c = wordsOf (c .args .s .now)
 abbrev first : tie.After-by → tie.Start
 first c = c .before .before .before .before .before .before .before
 
--- the last fixed word, from its span
-said : (c : tie.Start) → let r = ruleOf (nameOf (c .args .name)) in
-    fixedSaid (r .number) (bytesOf (c .args .s .now) (c .args .a .last)) ≡ fixedSaid (r .number) (wordAt (r .fixed - 1) (words c))
-said c =
-    let w = c .pre .0 in
-    let r = ruleOf (nameOf (c .args .name)) in
-    ap (λ (l : Span). fixedSaid (r .number) (bytesOf (c .args .s .now) l)) (w .last)
-    ∙ ap (fixedSaid (r .number)) (span-bytes (c .args .s .now) (words c) (w .decoded) (r .fixed - 1))
-
 fixed-is : (c : tie.After-by) → let b = first c in let r = ruleOf (nameOf (b .args .name)) in
     fixedSaid (r .number) (wordAt (r .fixed - 1) (words b)) ≡ FixedNumber.Value (c .by .given .0 .0) (c .by .given .0 .1 .0)
-fixed-is c = sym (said (first c)) ∙ (sym (c .before .before .fixed-number .ensures) ∙ c .by .given .1)
+fixed-is c = sym (last-said (first c .pre .0)) ∙ (sym (c .before .before .fixed-number .ensures) ∙ c .by .given .1)
 
 number-ok : (c : tie.After-by) → let b = first c in let r = ruleOf (nameOf (b .args .name)) in
     isNumber (r .number) (wordAt (r .fixed - 1) (words b)) ≡ true
@@ -134,10 +111,7 @@ module _ (c : tie.After-action-of) (gs : List Given) (t : let a = first (c .befo
       ∙ built (b .args .time) (words b) gs n (fixed-is y))
 
 fixed-number-requires : tie.Need-fixed-number-requires
-fixed-number-requires c κs =
-    let b = c .before .before .before .before in
-    let w = b .pre .0 in
-    subst (Within (b .args .s .now)) (sym (w .last)) (span-within _ _ (w .decoded) _ (last-word (nameOf (b .args .name)) (w .most)))
+fixed-number-requires c κs = last-within (c .before .before .before .before .pre .0)
 
 enum-known-by : tie.Need-enum-known-by
 enum-known-by c = search needs
@@ -150,7 +124,7 @@ returns c = λ gs t.
     let f = c .before .before in
     let b = f .before .before .before .before .before in
     let n = nameOf (b .args .name) in
-    let bad = fixed-bad (ruleOf n .number) (wordAt (ruleOf n .fixed - 1) (words b)) (sym (said b) ∙ (sym (f .fixed-number .ensures) ∙ c .enum-told .given .1)) in
+    let bad = fixed-bad (ruleOf n .number) (wordAt (ruleOf n .fixed - 1) (words b)) (sym (last-said (b .pre .0)) ∙ (sym (f .fixed-number .ensures) ∙ c .enum-told .given .1)) in
     sym (ap (parsedFrom (words b)) (to-nine (b .args .time) (words b) gs n (ap (λ (x : Bool). x && all (optionNumbers gs)) bad)))
 
 read-numbers-requires : tie.Need-read-numbers-requires
