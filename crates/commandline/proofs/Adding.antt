@@ -1,11 +1,10 @@
 -- A word that is added to a command: it has room, or the command is full.
 use Prim.Native.Nat.{ℕ, _+_, _≤_, _<_, _^_}
 use native.Mathlib.Omega.{arith}
-use mathlib.Core.Path.{_≡_, refl, sym, _∙_}
-use mathlib.Core.List.{List, [], _∷_, _++_}
+use mathlib.Core.Path.{_≡_}
+use mathlib.Core.List.{List}
 use lib.ListN.{length, length-append}
 use borrow.Author.Tests.{le-leb, lt-leb}
-use Rattle.model.specs.Bytes.{crlf}
 use Rattle.model.specs.Number.{natText}
 use Rattle.model.specs.Resp.{bulkBytes, line}
 use Rattle.model.proofs.Numbers.{length-natText}

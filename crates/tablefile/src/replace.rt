@@ -3,13 +3,22 @@ use crate::name::folder;
 use crate::reading::tell;
 use terminal::complain;
 
-// How often the new file is asked for while another process has it.
-const TRIES: u32 = 200000;
+// How many seconds the new file is asked for while another process has it.
+const PATIENCE: u32 = 3;
+
+// The machine's time in seconds, by which the wait is counted.
+fn seconds() -> i64 {
+    let mut copy = 0;
+    libc::time(&mut copy)
+}
 
 // Makes a file that is not there, and gives back its descriptor, or a number below 0. While the file is there, other processes run.
 fn make(new: &[u8]) -> i32 {
-    let mut tries = TRIES;
-    while 0 < tries {
+    let mut last = seconds();
+    let mut left = PATIENCE;
+    // a proved loop has to end, and nothing says that the clock goes on
+    let mut turns = u64::MAX;
+    while 0 < turns {
         let fd = os::create(new);
         if fd >= 0 {
             return fd;
@@ -18,7 +27,15 @@ fn make(new: &[u8]) -> i32 {
             return fd;
         }
         libc::sched_yield();
-        tries -= 1;
+        let second = seconds();
+        if second != last {
+            if left == 0 {
+                return os::create(new);
+            }
+            last = second;
+            left -= 1;
+        }
+        turns -= 1;
     }
     os::create(new)
 }

@@ -8,7 +8,6 @@ use borrow.Author.Needs.{needs}
 use Rattle.model.specs.Optional.{only}
 use Rattle.model.specs.Number.{readVersion}
 use Rattle.number.specs.Answer.{naturalFrom}
-use Rattle.number.specs.declared.Natural.{Natural}
 use Rattle.number.specs.declared.Natural.the-variants.{Value, Bad}
 use Rattle.commandline.proofs.numbers.read_records.Statement.{statement}
 use Rattle.commandline.proofs.numbers.read_records.Tie as tie

@@ -1,5 +1,5 @@
 -- `switch::is_dashed` meets its contract: a word has no byte, or its first decides.
-use Prim.Native.Nat.{ℕ, suc}
+use Prim.Native.Nat.{ℕ}
 use native.Mathlib.Omega.{arith}
 use mathlib.Core.Path.{_≡_, refl}
 use mathlib.Core.Bool.{false}

@@ -1,5 +1,5 @@
 -- `exchange::carry_out` meets its contract: the number that is tested and the table that is compared are the call's.
-use mathlib.Core.Path.{_≡_, sym, _∙_}
+use mathlib.Core.Path.{sym, _∙_}
 use lib.ListN.{length}
 use borrow.Author.Needs.{needs}
 use borrow.Author.Tests.{eq-eqb, ne-eqb}

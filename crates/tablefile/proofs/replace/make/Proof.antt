@@ -1,13 +1,16 @@
--- `replace::make`: the tries that are left fall.
+-- `replace::make`: the turns that are left fall.
 use borrow.Author.Needs.{needs}
 use Rattle.tablefile.proofs.replace.make.Statement.{statement}
 use Rattle.tablefile.proofs.replace.make.Tie as tie
 
 abbrev Inv-loop : tie.InvT-loop
-Inv-loop new tries₀ tries = Unit {0}
+Inv-loop new last₀ left₀ turns₀ last left turns = Unit {0}
 
 abbrev μ-loop : tie.MeasureT-loop
-μ-loop new tries₀ tries = tries
+μ-loop new last₀ left₀ turns₀ last left turns = turns
+
+seconds-requires : tie.Need-seconds-requires Inv-loop μ-loop
+seconds-requires c κs = search needs
 
 loop-holds : tie.Need-loop-holds Inv-loop μ-loop
 loop-holds c = search needs
@@ -27,14 +30,8 @@ returns-2 c = search needs
 sched-yield-requires : tie.Need-sched-yield-requires Inv-loop μ-loop
 sched-yield-requires c κs = search needs
 
-sub-tries : tie.Need-sub-tries Inv-loop μ-loop
-sub-tries c = search needs
-
-loop-less : tie.Need-loop-less Inv-loop μ-loop
-loop-less c = search needs
-
-loop-again : tie.Need-loop-again Inv-loop μ-loop
-loop-again c = search needs
+seconds-requires-2 : tie.Need-seconds-requires-2 Inv-loop μ-loop
+seconds-requires-2 c κs = search needs
 
 create-requires-2 : tie.Need-create-requires-2 Inv-loop μ-loop
 create-requires-2 c κs = search needs
@@ -42,20 +39,43 @@ create-requires-2 c κs = search needs
 returns-3 : tie.Need-returns-3 Inv-loop μ-loop
 returns-3 c = search needs
 
+sub-left : tie.Need-sub-left Inv-loop μ-loop
+sub-left c = search needs
+
+sub-turns : tie.Need-sub-turns Inv-loop μ-loop
+sub-turns c = search needs
+
+loop-less : tie.Need-loop-less Inv-loop μ-loop
+loop-less c = search needs
+
+loop-again : tie.Need-loop-again Inv-loop μ-loop
+loop-again c = search needs
+
+create-requires-3 : tie.Need-create-requires-3 Inv-loop μ-loop
+create-requires-3 c κs = search needs
+
+returns-4 : tie.Need-returns-4 Inv-loop μ-loop
+returns-4 c = search needs
+
 pub make-spec : {M : Type 1} → statement M
 make-spec =
     tie.close
     (tie.spec
     Inv-loop
     μ-loop
+    seconds-requires
     loop-holds
     create-requires
     returns
     errno-requires
     returns-2
     sched-yield-requires
-    sub-tries
+    seconds-requires-2
+    create-requires-2
+    returns-3
+    sub-left
+    sub-turns
     loop-less
     loop-again
-    create-requires-2
-    returns-3)
+    create-requires-3
+    returns-4)

@@ -1,5 +1,5 @@
 -- `escape::put_escaped` meets its contract: a letter of 0 means that there is none.
-use mathlib.Core.Path.{_≡_, sym, _∙_}
+use mathlib.Core.Path.{sym, _∙_}
 use borrow.Author.Needs.{needs}
 use borrow.Author.Tests.{eq-eqb, ne-eqb}
 use Rattle.terminal.specs.Escape.{letter, escaped}

@@ -1,5 +1,4 @@
 -- `escape::put_plain` meets its contract: the test of the byte is the definition's.
-use mathlib.Core.Path.{sym}
 use borrow.Author.Needs.{needs}
 use Rattle.terminal.proofs.escape.put_plain.Statement.{statement}
 use Rattle.terminal.proofs.escape.put_plain.Tie as tie
