@@ -7,14 +7,13 @@ use mathlib.Core.List.{List, [], _∷_, _++_, append-assoc}
 use mathlib.Core.Option.{some}
 use lib.ListN.{length, take, drop, length-append}
 use lib.Seq.{drop-cons, drop-at}
-use borrow.Author.Tests.{le-leb}
 use Rattle.model.specs.Bytes.{part, crlf}
-use Rattle.model.specs.Resp.{arrayMark, bulkMark, commandLimit, line, bulkBytes, bulksBytes, encode, readLine, readBulk, decode}
+use Rattle.model.specs.Resp.{arrayMark, bulkMark, commandLimit, line, bulkBytes, bulksBytes, encode, readBulk, decode}
 use Rattle.model.specs.Command.{wordAt}
 use Rattle.model.specs.CurrentValue.{wordStart}
-use Rattle.model.proofs.Words.{encode-decode, readLine-line, readBulk-bulkBytes}
+use Rattle.model.proofs.Words.{encode-decode, readBulk-bulkBytes}
 use Rattle.model.proofs.Shown.{wordStart-part}
-use Rattle.resp.specs.Words.{lineOf, lineFrom, wordOf, wordFrom, firstWord, nextOf}
+use Rattle.resp.specs.Words.{wordOf, wordFrom, firstWord}
 use Rattle.resp.specs.declared.Word.the-variants as Word
 use Rattle.options.specs.Places.{placeOf}
 
@@ -94,14 +93,11 @@ module _ (s : List ℕ) (ws : List (List ℕ)) (e : decode s ≡ some ws) where
   pub word-part : (i : ℕ) → part (wordStart i ws) (length (wordAt i ws)) s ≡ wordAt i ws
   word-part i = ap (part (wordStart i ws) (length (wordAt i ws))) is-encoded ∙ wordStart-part ws i
 
-  pub first-place : firstWord s ≡ placeOf 0 ws
-  unfolding lineFrom encode
-  first-place =
-      let d = encode-decode s ws e in
-      let few = d .words .few-words in
-      let place : length (encode ws) - length (bulksBytes ws) ≡ placeOf 0 ws = omega (arith, left-length 0 ws) in
-      ap (λ (l : List ℕ). nextOf (lineOf (length l) (readLine arrayMark l))) is-encoded
-      ∙ rw (readLine-line arrayMark (length ws) (bulksBytes ws) (omega arith), le-leb (length ws) commandLimit (omega arith)) place
+-- the first word begins after the line of the count
+pub first-place : (ws : List (List ℕ)) → firstWord (length ws) ≡ placeOf 0 ws
+unfolding placeOf
+first-place [] = omega arith
+first-place (w ∷ ws) = omega arith
 
 -- ---- a word that was read
 

@@ -237,7 +237,7 @@ pub fn parse(s: &[u8], count: usize, time: u64) -> Parsed
     requires { ⌜ (decode (now s) ≡ some (wordsOf (now s))) × (count ≡ length (wordsOf (now s))) × (time ≤ timeLimit) ⌝ }
     ensures { λ r. ⌜ r ≡ parsedFrom (wordsOf (now (s .entry))) (parse form128 time (wordsOf (now (s .entry)))) ⌝ }
 {
-    let Word::At { start, end, next } = resp::read_word(s, resp::first_word(s)) else {
+    let Word::At { start, end, next } = resp::read_word(s, resp::first_word(count)) else {
         return Parsed::Refused(4);
     };
     let Named::Known(name) = keyword::name_of(&s[start..end]) else {

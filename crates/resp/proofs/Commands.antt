@@ -2,21 +2,21 @@
 use Prim.Native.Nat.{ℕ, zero, suc, _-_, _≤_, _<_}
 use native.Mathlib.Omega.{arith}
 use mathlib.Core.Path.{_≡_, refl, sym, ap, _∙_}
-use mathlib.Core.Bool.{Bool, true, false, cond, _&&_}
+use mathlib.Core.Bool.{true, false, cond, _&&_}
 use mathlib.Core.List.{List, [], _∷_}
 use mathlib.Core.Option.{Option, none, some, Option·some-injective, Option·none-ne-some}
 use lib.Dec.{leb}
 use lib.ListN.{length, drop}
-use borrow.Author.Tests.{le-leb, lt-leb, leb-true}
+use borrow.Author.Tests.{le-leb, lt-leb}
 use Rattle.model.specs.Bytes.{part}
 use Rattle.model.specs.Optional.{_>>=_}
-use Rattle.model.specs.Resp.{commandLimit, wordLimit, arrayMark, Taken, readLine, readBulk, readBulks, readArray, decode}
-use Rattle.resp.specs.Words.{lineOf, lineFrom, wordFrom, hasWords, countFrom, nextOf, firstWord}
+use Rattle.model.specs.Resp.{commandLimit, wordLimit, arrayMark, Taken, readLine, readBulk, readBulks, decode}
+use Rattle.resp.specs.Words.{lineFrom, wordFrom, hasWords, countFrom}
 use Rattle.resp.specs.declared.Line.the-variants.{Malformed as NoLine}
 use Rattle.resp.specs.declared.Word.the-variants.{At, Malformed as NoWord}
 use Rattle.resp.specs.declared.Count.the-variants.{Words, Malformed}
-use Rattle.resp.proofs.Optional.{bind-some, cond-some, present-some, present-none}
-use Rattle.resp.proofs.Lines.{line-tail, LineAt, line-malformed}
+use Rattle.resp.proofs.Optional.{bind-some, present-some, present-none}
+use Rattle.resp.proofs.Lines.{LineAt, line-malformed}
 use Rattle.resp.proofs.Words.{word-at, word-malformed}
 
 -- ---- the words left
@@ -70,39 +70,6 @@ count-some s e = some-count (decode s) e
 
 pub count-not : (s : List ℕ) → countFrom (decode s) ≡ Malformed → decode s ≡ none
 count-not s e = no-count (decode s) e
-
--- ---- the first line
-
-pub record Begin (s : List ℕ) (ws : List (List ℕ)) : Type 0 where
-  pub words : readBulks (length ws) (drop (firstWord s) s) ≡ some ws
-  pub least : 1 ≤ length ws
-  pub most : length ws ≤ wordLimit
-  pub short : length s ≤ commandLimit
-
-and-true : (a b : Bool) → a && b ≡ true → (a ≡ true) × (b ≡ true)
-and-true true b e = (refl, e)
-and-true false b e = let z : _≡_ {A = ℕ} 0 1 = cc in absurd (omega arith)
-
-pub begin : (s : List ℕ) {ws : List (List ℕ)} → decode s ≡ some ws → Begin s ws
-unfolding decode lineFrom
-begin s {ws} e =
-    let d = cond-some (leb (length s) commandLimit) (readArray s) e in
-    let l = bind-some (readLine arrayMark s) _ (d .1) in
-    let v = l .0 .value in
-    let r = cond-some (leb 1 v && leb v wordLimit) _ (l .2) in
-    let t = and-true (leb 1 v) (leb v wordLimit) (r .0) in
-    let least = leb-true 1 v (t .0) in
-    let most = leb-true v wordLimit (t .1) in
-    let count = bulks-length v (l .0 .rest) (r .1) in
-    let place : firstWord s ≡ length s - length (l .0 .rest) =
-    ap (λ (o : Option (Taken ℕ)). nextOf (lineOf (length s) o)) (l .1) ∙ simp (le-leb v commandLimit (omega arith)) in
-    let rest : drop (firstWord s) s ≡ l .0 .rest = ap (λ (k : ℕ). drop k s) place ∙ sym (line-tail arrayMark s 0 (l .1) .is) in
-    record {
-      words = rw (count, rest) (r .1);
-      least = rw count least;
-      most = rw count most;
-      short = leb-true (length s) commandLimit (d .0);
-    }
 
 -- ---- the count of words, by the tests on the way
 

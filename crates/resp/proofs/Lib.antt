@@ -1,4 +1,4 @@
--- Laws of the reader of commands. Callers use those of Commands: begin, next-word, no-word, bulks-length, count-some, count-not.
+-- Laws of the reader of commands. Callers use those of Commands: next-word, no-word, bulks-length, count-some, count-not.
 pub mod Optional
 pub mod Places
 pub mod Digits

@@ -3,6 +3,7 @@ use Prim.Native.Nat.{ℕ}
 use mathlib.Core.List.{List}
 use mathlib.Core.Path.{_≡_, refl}
 use Rattle.model.specs.Bytes.{text}
+use Rattle.model.specs.Number.{natText}
 use Rattle.model.specs.Resp.{arrayMark, bulkMark, readLine, readBulk, decode}
 use Rattle.resp.specs.Words.{lineFrom, wordFrom, countFrom, firstWord}
 use Rattle.resp.specs.declared.Line.the-variants.{Number, Malformed}
@@ -17,8 +18,8 @@ two-words : countFrom (decode command) ≡ Words 2
 unfolding decode readLine readBulk
 two-words = refl
 
-first-place : firstWord command ≡ 4
-unfolding lineFrom readLine
+first-place : firstWord 2 ≡ 4
+unfolding natText
 first-place = refl
 
 word-places : wordFrom command 4 ≡ At 8 11 13

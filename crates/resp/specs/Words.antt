@@ -6,7 +6,7 @@ use mathlib.Core.Option.{Option, none, some}
 use lib.ListN.{length, drop, getD}
 use lib.Dec.{leb}
 use Rattle.model.specs.Number.{isDigit, readDigits, readNat}
-use Rattle.model.specs.Resp.{commandLimit, arrayMark, Taken, leadingDigits, skipLineEnd, readLine, readBulk, readBulks}
+use Rattle.model.specs.Resp.{commandLimit, arrayMark, line, Taken, leadingDigits, skipLineEnd, readLine, readBulk, readBulks}
 use Rattle.resp.specs.declared.Line.{Line}
 use Rattle.resp.specs.declared.Line.the-variants as Line
 use Rattle.resp.specs.declared.Word.{Word}
@@ -77,11 +77,6 @@ abbrev pub countFrom : Option (List (List ℕ)) → Count
 countFrom none = Count.Malformed
 countFrom (some ws) = Count.Words (length ws)
 
--- the place after a line; 0 where there is none
-abbrev pub nextOf : Line → ℕ
-nextOf Line.Malformed = 0
-nextOf (Line.Number n next) = next
-
--- the place of a command's first word
-abbrev pub firstWord : List ℕ → ℕ
-firstWord s = nextOf (lineFrom arrayMark s 0)
+-- the place of the first word of n: after the line of their count
+abbrev pub firstWord : ℕ → ℕ
+firstWord n = length (line arrayMark n)

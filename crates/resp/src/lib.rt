@@ -4,7 +4,7 @@ ghost use mathlib.Core.Path.{_≡_};
 ghost use Prim.Native.Nat.{_≤_, _<_};
 ghost use lib.ListN.{length, drop};
 ghost use lib.Dec.{leb};
-ghost use Rattle.model.specs.Resp.{commandLimit, decode};
+ghost use Rattle.model.specs.Resp.{commandLimit, wordLimit, decode};
 ghost use Rattle.resp.specs.Words.{digitAt, digitsFrom, numberFrom, endsLine, lineFrom, wordFrom, hasWords, countFrom, firstWord};
 
 // A line's number, and the place after the line.
@@ -234,12 +234,13 @@ pub fn count_words(s: &[u8]) -> Count
     Count::Malformed
 }
 
-// The place of the first word of a command that `count_words` accepts.
-pub fn first_word(s: &[u8]) -> usize
-    ensures { λ r. ⌜ r ≡ firstWord (now (s .entry)) ⌝ }
+// The place of the first word of a command of `count` words: after `*`, one or two digits and CR LF.
+pub fn first_word(count: usize) -> usize
+    requires { ⌜ count ≤ wordLimit ⌝ }
+    ensures { λ r. ⌜ r ≡ firstWord count ⌝ }
 {
-    match read_line(s, 0, b'*') {
-        Line::Number { value: _, next } => next,
-        Line::Malformed => 0,
+    if count < 10 {
+        return 4;
     }
+    5
 }

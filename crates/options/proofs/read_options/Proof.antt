@@ -11,8 +11,7 @@ use Rattle.model.specs.Bytes.{uppers}
 use Rattle.model.specs.Command.{ruleOf, optRuleOf, kindNo, wordAt, look, options}
 use Rattle.command.specs.Command.{wordsOf}
 use Rattle.command.specs.Words.{nameOf, spelledFrom}
-use Rattle.options.specs.Options.{optOf, blank, groupAt, takenAs}
-use Rattle.options.specs.declared.Given.{Given}
+use Rattle.options.specs.Options.{optOf, blank, takenAs}
 use Rattle.options.specs.declared.Taken.{Taken}
 use Rattle.options.proofs.Groups.{kind-small}
 use Rattle.options.proofs.Places.{short, WordIs, word-is, word-there}

@@ -9,6 +9,8 @@ use Rattle.model.specs.Command.{wordAt, look, names}
 use Rattle.model.proofs.Words.{encode-decode}
 use Rattle.command.specs.Command.{parsedFrom, wordsOf}
 use Rattle.command.specs.Words.{nameOf, namedFrom}
+use Rattle.resp.specs.Words.{firstWord}
+use Rattle.options.specs.Places.{placeOf}
 use Rattle.options.proofs.Places.{short, first-place, WordIs, word-is, word-there}
 use Rattle.parse.proofs.Order.{named-known, named-unknown, to-five, from-five}
 use borrow.Author.Needs.{needs}
@@ -18,13 +20,19 @@ use Rattle.parse.proofs.parse.Tie as tie
 some-word : (c : tie.Start) → 0 < length (wordsOf (c .args .s .now))
 some-word c = omega (arith, encode-decode (c .args .s .now) (wordsOf (c .args .s .now)) (c .pre .0) .words .some-words)
 
+-- its place
+first-there : (c : tie.After-first-word) → let b = c .before .before in c .first-word .result ≡ placeOf 0 (wordsOf (b .args .s .now))
+first-there c =
+    let b = c .before .before in
+    c .first-word .ensures ∙ (ap firstWord (b .pre .1) ∙ first-place (wordsOf (b .args .s .now)))
+
 -- the first word
 word : (c : tie.After-start) → let s = c .before .before .before .before .before .args .s .now in
     WordIs s (wordsOf s) 0 (c .start .given .0 .0) (c .start .given .0 .1 .0) (c .start .given .0 .1 .1 .0)
 word c =
     let r = c .before .before in
     let b = r .before .before .before in
-    word-is _ _ (b .pre .0) 0 _ (some-word b) (r .before .first-word .ensures ∙ first-place _ _ (b .pre .0)) (sym (r .read-word .ensures) ∙ c .start .given .1)
+    word-is _ _ (b .pre .0) 0 _ (some-word b) (first-there (r .before)) (sym (r .read-word .ensures) ∙ c .start .given .1)
 
 -- what it spells
 spelled : (c : tie.After-name-of) → let ws = wordsOf (c .before .before .before .before .before .before .before .before .args .s .now) in
@@ -32,7 +40,7 @@ spelled : (c : tie.After-name-of) → let ws = wordsOf (c .before .before .befor
 spelled c = c .name-of .ensures ∙ ap (λ (w : List ℕ). namedFrom (look (uppers w) names)) (word (c .before .before .before) .bytes)
 
 first-word-requires : tie.Need-first-word-requires
-first-word-requires c κs = search needs
+first-word-requires c κs = let b = c .before in omega (arith, b .pre .1, encode-decode (b .args .s .now) (wordsOf (b .args .s .now)) (b .pre .0) .words .few-words)
 
 read-word-requires : tie.Need-read-word-requires
 read-word-requires c κs = short _ _ (c .before .before .pre .0)
@@ -47,7 +55,7 @@ returns : tie.Need-returns
 returns c =
     let r = c .before .before in
     let b = r .before .before .before in
-    word-there _ _ (b .pre .0) 0 _ (some-word b) (r .before .first-word .ensures ∙ first-place _ _ (b .pre .0)) (sym (r .read-word .ensures) ∙ c .enum-told .given .1)
+    word-there _ _ (b .pre .0) 0 _ (some-word b) (first-there (r .before)) (sym (r .read-word .ensures) ∙ c .enum-told .given .1)
 
 sub-name-of : tie.Need-sub-name-of
 sub-name-of c = let w = word (c .before) in omega (arith, w .ordered)
