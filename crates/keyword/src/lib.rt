@@ -7,6 +7,7 @@ use command::Presence;
 use command::Spelled;
 ghost use mathlib.Core.Path.{_≡_};
 ghost use mathlib.Core.Bool.{true};
+ghost use lib.Dec.{eqb};
 ghost use Rattle.model.specs.Bytes.{same, upper, uppers};
 ghost use Rattle.model.specs.Command.{look, names, options};
 ghost use Rattle.command.specs.Words.{namedFrom, spelledFrom};
@@ -19,8 +20,20 @@ fn upper(c: u8) -> u8
     if b'a' <= c && c <= b'z' { c - 32 } else { c }
 }
 
+// Whether a byte is the upper-case letter `k`, in either case. Most words are in upper case too, so it is folded only where it differs.
+fn is_letter(c: u8, k: u8) -> bool
+    requires { ⌜ upper k ≡ k ⌝ }
+    ensures { λ r. ⌜ r ≡ eqb (upper c) k ⌝ }
+{
+    if c == k {
+        return true;
+    }
+    upper(c) == k
+}
+
 // Whether a word spells an upper-case keyword.
 fn spells(w: &[u8], keyword: &[u8]) -> bool
+    requires { ⌜ uppers (now keyword) ≡ now keyword ⌝ }
     ensures { λ r. ⌜ r ≡ same (uppers (now (w .entry))) (now (keyword .entry)) ⌝ }
 {
     if w.len() != keyword.len() {
@@ -28,7 +41,7 @@ fn spells(w: &[u8], keyword: &[u8]) -> bool
     }
     let mut i = 0;
     while i < w.len() {
-        if upper(w[i]) != keyword[i] {
+        if !is_letter(w[i], keyword[i]) {
             return false;
         }
         i += 1;
@@ -38,7 +51,7 @@ fn spells(w: &[u8], keyword: &[u8]) -> bool
 
 // The place of the keyword that a word spells, or the count of the keywords where it spells none. Before each keyword stands its length.
 pub fn place_of(w: &[u8], keywords: &[u8]) -> usize
-    requires { ⌜ wholeAfter 0 (now keywords) ≡ true ⌝ }
+    requires { ⌜ (wholeAfter 0 (now keywords) ≡ true) × (uppers (now keywords) ≡ now keywords) ⌝ }
     ensures { λ r. ⌜ r ≡ placeIn (wordsAfter 0 (now (keywords .entry))) (uppers (now (w .entry))) ⌝ }
 {
     let mut place = 0;

@@ -1,6 +1,7 @@
 -- `keyword::option_of` meets its contract: the keywords are the words of the model's table and the array has its values, both by computing, in the same order.
 use native.Mathlib.Omega.{arith}
 use borrow.Author.Needs.{needs}
+use mathlib.Core.Path.{refl}
 use Rattle.model.specs.Bytes.{uppers}
 use Rattle.model.specs.Command.{options}
 use Rattle.command.specs.Words.{spelledFrom}
@@ -12,7 +13,7 @@ slice-aggregate-place-of : tie.Need-slice-aggregate-place-of
 slice-aggregate-place-of c = search needs
 
 place-of-requires : tie.Need-place-of-requires
-place-of-requires c κs = search needs
+place-of-requires c κs = (refl, refl)
 
 array-copy-out-result : tie.Need-array-copy-out-result
 array-copy-out-result c = place-below spelledFrom options (uppers (c .before .before .before .args .w .now)) (c .place-of .ensures)

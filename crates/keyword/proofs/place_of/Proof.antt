@@ -8,6 +8,7 @@ use lib.ListN.{length, getD, drop, drop-of-length-le}
 use borrow.Author.Needs.{needs}
 use Rattle.model.specs.Bytes.{uppers}
 use Rattle.keyword.specs.WordList.{wordsAfter, wholeAfter, placeIn}
+use Rattle.keyword.proofs.Letters.{part-uppers}
 use Rattle.keyword.proofs.WordList.{place-here, place-later, word-fits, rest-whole}
 use Rattle.keyword.proofs.place_of.Statement.{statement}
 use Rattle.keyword.proofs.place_of.Tie as tie
@@ -23,7 +24,7 @@ abbrev μ-loop : tie.MeasureT-loop
 μ-loop w keywords place₀ at₀ place at = length keywords - at
 
 loop-holds : tie.Need-loop-holds Inv-loop μ-loop
-loop-holds c = (omega arith, omega arith, c .before .before .pre, omega arith)
+loop-holds c = (omega arith, omega arith, c .before .before .pre .0, omega arith)
 
 add-start : tie.Need-add-start Inv-loop μ-loop
 add-start c = search needs
@@ -58,7 +59,9 @@ part-spells-end : tie.Need-part-spells-end Inv-loop μ-loop
 part-spells-end c = fits (c .before)
 
 spells-requires : tie.Need-spells-requires Inv-loop μ-loop
-spells-requires c κs = search needs
+spells-requires c κs =
+    let l = c .before .before in
+    part-uppers (at l + 1) (at l + 1 + getD (keywords l) (at l) 0 - (at l + 1)) (l .before .before .before .before .pre .1)
 
 returns : tie.Need-returns Inv-loop μ-loop
 returns c =

@@ -1,9 +1,11 @@
 -- `keyword::spells` meets its contract. A word of another length spells nothing; else the loop keeps that the whole comparison equals that of the bytes left.
-use Prim.Native.Nat.{_-_, _≤_}
+use Prim.Native.Nat.{ℕ, _-_, _≤_}
 use native.Mathlib.Omega.{arith}
-use mathlib.Core.Path.{_≡_, refl, sym, _∙_}
-use lib.ListN.{length, drop}
+use mathlib.Core.Path.{_≡_, refl, sym, ap, _∙_}
+use mathlib.Core.List.{List}
+use lib.ListN.{length, getD, drop}
 use borrow.Author.Needs.{needs}
+use borrow.Author.Tests.{eqb-true, eqb-false, not-true, not-false}
 use Rattle.model.specs.Bytes.{same, uppers}
 use Rattle.slice.proofs.Equal.{other-length, same-drop, differ-drop, same-end}
 use Rattle.keyword.proofs.Letters.{length-uppers, getD-uppers}
@@ -25,14 +27,17 @@ returns c =
 loop-holds : tie.Need-loop-holds Inv-loop μ-loop
 loop-holds c = (omega arith, omega (arith, length-uppers (c .before .before .before .args .w .now)), refl)
 
-shared-slice-read-upper : tie.Need-shared-slice-read-upper Inv-loop μ-loop
-shared-slice-read-upper c = search needs
+shared-slice-read-is-letter : tie.Need-shared-slice-read-is-letter Inv-loop μ-loop
+shared-slice-read-is-letter c = search needs
 
-upper-requires : tie.Need-upper-requires Inv-loop μ-loop
-upper-requires c κs = search needs
+shared-slice-read-is-letter-2 : tie.Need-shared-slice-read-is-letter-2 Inv-loop μ-loop
+shared-slice-read-is-letter-2 c = search needs
 
-shared-slice-read-if2 : tie.Need-shared-slice-read-if2 Inv-loop μ-loop
-shared-slice-read-if2 c = search needs
+is-letter-requires : tie.Need-is-letter-requires Inv-loop μ-loop
+is-letter-requires c κs =
+    let l = c .before .before .before in
+    let b = l .before .before .before .before in
+    sym (getD-uppers (b .args .keyword .now) (l .loop .i)) ∙ ap (λ (s : List ℕ). getD s (l .loop .i) 0) (b .pre)
 
 returns-2 : tie.Need-returns-2 Inv-loop μ-loop
 returns-2 c =
@@ -40,7 +45,7 @@ returns-2 c =
     let a = l .before .before .before .before .args in
     let n = length-uppers (a .w .now) in
     sym (l .loop .inv .2 ∙ differ-drop (uppers (a .w .now)) (a .keyword .now) (l .loop .i) (omega arith) (omega arith)
-    (λ e. c .if2 .taken (c .before .before .upper .ensures ∙ (sym (getD-uppers (a .w .now) (l .loop .i)) ∙ e))))
+    (λ e. eqb-false _ _ (sym (c .before .is-letter .ensures) ∙ not-true _ (c .if2 .taken)) (sym (getD-uppers (a .w .now) (l .loop .i)) ∙ e)))
 
 add-i : tie.Need-add-i Inv-loop μ-loop
 add-i c = search needs
@@ -56,7 +61,7 @@ loop-again c =
       omega arith,
       l .loop .inv .1,
       l .loop .inv .2 ∙ same-drop (uppers (a .w .now)) (a .keyword .now) (l .loop .i) (omega arith) (omega arith)
-          (getD-uppers (a .w .now) (l .loop .i) ∙ (sym (c .before .before .upper .ensures) ∙ c .if2 .left)),
+          (getD-uppers (a .w .now) (l .loop .i) ∙ eqb-true _ _ (sym (c .before .is-letter .ensures) ∙ not-false _ (c .if2 .left))),
     )
 
 returns-3 : tie.Need-returns-3 Inv-loop μ-loop
@@ -74,9 +79,9 @@ spells-spec =
     μ-loop
     returns
     loop-holds
-    shared-slice-read-upper
-    upper-requires
-    shared-slice-read-if2
+    shared-slice-read-is-letter
+    shared-slice-read-is-letter-2
+    is-letter-requires
     returns-2
     add-i
     loop-less
