@@ -5,7 +5,7 @@ ghost use mathlib.Core.List.{_++_};
 ghost use Prim.Native.Nat.{_+_, _≤_};
 ghost use lib.ListN.{length, replicate};
 ghost use Rattle.model.specs.Bytes.{written, littleEndian};
-ghost use Rattle.model.specs.Table.{form128, keyLimit, versionAt, expiryAt, readSlot, recordBytes, isRecord, fields, holds, isEmpty, live};
+ghost use Rattle.model.specs.Table.{form128, keyLimit, versionAt, expiryAt, readSlot, recordBytes, isRecord, fields, isEmpty, live};
 ghost use Rattle.model.specs.Command.{isSome};
 ghost use Rattle.slice.specs.Zeros.{zerosThenOnes};
 ghost use Rattle.record.specs.Record.{slotOf, Readable, InUse, withValue, head, isHead, hasWords};

@@ -1,4 +1,4 @@
-// Byte slices: comparing, whole numbers low byte first, and writing over a part of a buffer.
+// Byte slices: comparing, tests for zeros, whole numbers low byte first, and writing over a part of a buffer.
 ghost use mathlib.Core.Path.{_≡_};
 ghost use Prim.Native.Nat.{_+_, _≤_, _<_};
 ghost use lib.ListN.{length, take, replicate};
