@@ -47,7 +47,7 @@ mark-above : (x : ℕ) → 1 ≤ markOf x
 unfolding markOf
 mark-above x = omega arith
 
--- a byte that tells of two marks tells of the first after the second is joined to it
+-- a byte that tells of a mark still does after another is joined to it
 covers-old : (old mark other : ℕ) → 1 ≤ mark → covers old mark ≡ true → covers old other ≡ false → covers (joined old other) mark ≡ true
 covers-old old mark other h e n = go (eqb old mark) refl e
   where

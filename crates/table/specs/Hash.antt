@@ -21,10 +21,11 @@ spreadOf s =
 abbrev pub keySpread : List ℕ → ℕ
 keySpread k = spreadOf (padded 24 k)
 
--- the entry of a key among n, and its mark, by its number
+-- the entry of a key among n, by its number
 unfoldable pub entryOf : (n x : ℕ) → ℕ
 entryOf n x = bitAnd (x / 16777216) (n - 1)
 
+-- the mark of a key, by its number
 unfoldable pub markOf : ℕ → ℕ
 markOf x = 1 + x / 1099511627776 % 128
 
