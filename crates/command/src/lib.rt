@@ -4,6 +4,12 @@ ghost use Prim.Native.Nat.{_≤_};
 ghost use lib.ListN.{length};
 ghost use Rattle.command.specs.Command.{bytesOf};
 
+// The latest time and expiry, 2^62.
+pub const LATEST: u64 = 4611686018427387904;
+
+// The highest version, 2^63 - 1.
+pub const TOP: u64 = 9223372036854775807;
+
 // Where the bytes of a word begin and end.
 pub struct Span {
     pub start: usize,

@@ -1,6 +1,7 @@
 // Where the current value of a key stands after an EXGET or EXCAS: a part of the table or of the command.
 use command::Action;
 use command::Span;
+use command::TOP;
 use table::Found;
 use table::RECORD_SIZE;
 ghost use mathlib.Core.Path.{_≡_};
@@ -44,7 +45,7 @@ fn swapped(table: &[u8], slot: usize, value: Span, version: u64) -> Shown
     if stored != version {
         return value_at(table, slot);
     }
-    if 9223372036854775807 <= stored {
+    if TOP <= stored {
         return Shown::Nothing;
     }
     let start = value.start;

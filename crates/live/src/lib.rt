@@ -2,6 +2,7 @@
 use command::Change;
 use command::Expire;
 use command::Presence;
+use command::TOP;
 use table::Found;
 use table::RECORD_SIZE;
 ghost use Prim.Native.Nat.{ℕ};
@@ -88,7 +89,7 @@ fn risen(table: &[u8], live: Found) -> Version
         return Version::Value(1);
     };
     let stored = record::version(record_at(table, slot));
-    if stored < 9223372036854775807 {
+    if stored < TOP {
         return Version::Value(stored + 1);
     }
     Version::Top

@@ -1,4 +1,5 @@
 // Where the current value stands after an EXGET or EXCAS, found without doing the command: from bytes to a place.
+use command::LATEST;
 use command::Parsed;
 use current::Shown;
 use resp::Count;
@@ -6,9 +7,6 @@ ghost use mathlib.Core.Path.{_≡_};
 ghost use Rattle.model.specs.Table.{form128};
 ghost use Rattle.model.specs.CurrentValue.{currentValue};
 ghost use Rattle.current.specs.Current.{shownFrom};
-
-// The latest time, 2^62.
-const LATEST: u64 = 4611686018427387904;
 
 // Where the current value of a command stands, if it shows one. A refusal shows none.
 pub fn locate(table: &[u8], time: u64, command: &[u8]) -> Shown

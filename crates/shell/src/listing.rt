@@ -4,6 +4,7 @@ use crate::tell::DONE;
 use crate::tell::REFUSED;
 use crate::tell::refuse_call;
 use crate::tell::refuse_file;
+use command::LATEST;
 use tablefile::Loaded;
 use tablefile::load;
 use terminal::print;
@@ -14,9 +15,6 @@ ghost use mathlib.Core.Bool.{true};
 ghost use Rattle.model.specs.Table.{form128, readTable};
 ghost use Rattle.model.specs.Command.{isSome};
 ghost use Rattle.record.specs.Record.{InUse};
-
-// The latest time, 2^62.
-const LATEST: u64 = 4611686018427387904;
 
 // The bytes of a record.
 const RECORD_SIZE: usize = 128;

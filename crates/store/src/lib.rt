@@ -1,5 +1,6 @@
 // The store: one call on a borrowed table, from bytes to bytes, and the value that a command shows.
 use access::Answer;
+use command::LATEST;
 use command::Parsed;
 use current::Shown;
 use resp::Count;
@@ -8,9 +9,6 @@ ghost use Rattle.model.specs.Call.{call};
 ghost use Rattle.model.specs.CurrentValue.{currentValue};
 ghost use Rattle.store.specs.Called.{Called};
 ghost use Rattle.store.specs.Shows.{Shows};
-
-// The latest time, 2^62.
-const LATEST: u64 = 4611686018427387904;
 
 // The least reply buffer.
 const ROOM: usize = 128;

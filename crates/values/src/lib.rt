@@ -2,6 +2,7 @@
 use command::Bound;
 use command::Change;
 use command::Expire;
+use command::LATEST;
 use command::Opt;
 use command::Presence;
 use number::Natural;
@@ -52,9 +53,6 @@ pub enum Numbers {
     },
     Bad,
 }
-
-// The latest expiry, 2^62.
-const LATEST: u64 = 4611686018427387904;
 
 // The presence that NX or XX asks for.
 pub fn presence_of(g: Given) -> Presence

@@ -10,9 +10,9 @@ pub const TIME: u64 = 1_700_000_000_000;
 /// The numbers of records.
 pub const SIZES: [usize; 5] = [1, 16, 64, 200, 256];
 
-pub const NAMES: [&str; 11] = [
+pub const NAMES: [&str; 12] = [
     "EXGET hit", "EXGET miss", "EXSET live", "EXSET new", "EXCAS OK", "EXCAS stale", "EXINCRBY",
-    "EXAPPEND", "malformed", "damaged", "equal keys",
+    "EXAPPEND", "options", "malformed", "damaged", "equal keys",
 ];
 
 /// How many commands a row has, on slots all over the table.
@@ -82,10 +82,11 @@ fn command(name: &str, records: usize, key: Key, at: usize) -> (Vec<u8>, usize) 
     let bytes = match name {
         "EXGET miss" => encode(&["EXGET", elsewhere]),
         "EXSET live" => encode(&["EXSET", there, text]),
-        "EXSET new" => return (encode(&["EXSET", elsewhere, text, "EX", "3600"]), records - 1),
-        "EXCAS OK" => encode(&["EXCAS", there, text, now, "KEEPTTL"]),
-        "EXCAS stale" => encode(&["EXCAS", there, text, before, "KEEPTTL"]),
-        "EXINCRBY" => encode(&["EXINCRBY", there, "5", "MIN", "0", "MAX", "5000"]),
+        "EXSET new" => return (encode(&["EXSET", elsewhere, text]), records - 1),
+        "EXCAS OK" => encode(&["EXCAS", there, text, now]),
+        "EXCAS stale" => encode(&["EXCAS", there, text, before]),
+        "EXINCRBY" => encode(&["EXINCRBY", there, "5"]),
+        "options" => encode(&["EXSET", there, text, "EX", "3600", "FLAGS", "7", "XX"]),
         "EXAPPEND" => encode(&["EXAPPEND", there, ";x=1"]),
         "malformed" => [encode(&["EXGET", there]), b"\n".to_vec()].concat(),
         _ => encode(&["EXGET", there]),
