@@ -10,7 +10,8 @@ use Rattle.command.specs.Command.{spanAt, expireOf, expireFrom, actionFrom}
 use Rattle.command.specs.declared.Action.the-variants as Action
 use Rattle.arguments.specs.Arguments.{fixedSaid}
 use Rattle.arguments.specs.declared.FixedNumber.the-variants as FixedNumber
-use Rattle.parse.specs.Actions.{keepsOf, saidFrom, actionSaid}
+use Rattle.action.specs.Actions.{keepsOf, actionSaid}
+use Rattle.parse.specs.Said.{saidFrom}
 use Rattle.parse.proofs.Nine.{signed-value, version-value}
 
 expire-back : (e : model.Expire) → expireOf (expireFrom e) ≡ e

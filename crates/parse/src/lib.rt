@@ -1,6 +1,4 @@
 // The words of a command as a command by value, or the number of the first test that refuses it, 5 to 11.
-mod action;
-
 use action::Said;
 use arguments::Fixed;
 use arguments::FixedNumber;
@@ -30,7 +28,8 @@ ghost use Rattle.command.specs.Words.{nameOf};
 ghost use Rattle.options.specs.Places.{AtWord};
 ghost use Rattle.options.specs.Options.{Tied};
 ghost use Rattle.values.specs.Values.{otherwise};
-ghost use Rattle.parse.specs.Actions.{keepsOf, saidWith, saidFrom};
+ghost use Rattle.action.specs.Actions.{keepsOf};
+ghost use Rattle.parse.specs.Said.{saidWith, saidFrom};
 ghost use Rattle.parse.specs.Tests.{fromNine, fromEnough, fromEight, Stands};
 
 // Where the fixed words of a command stand: the key, the value, and the last of them.
@@ -40,47 +39,11 @@ pub struct Arguments {
     pub last: Span,
 }
 
-// Whether a command needs a time word.
-fn timed(name: Name) -> bool
-    ensures { λ r. ⌜ r ≡ ruleOf (nameOf name) .timed ⌝ }
-{
-    match name {
-        Name::Exset => false,
-        Name::Exget => false,
-        Name::Exsetver => false,
-        Name::Exincrby => false,
-        Name::Excas => false,
-        Name::Excad => false,
-        Name::Exappend => false,
-        Name::Exprepend => false,
-        Name::Exgae => true,
-        Name::Del => false,
-    }
-}
-
-// Whether a command keeps the expiry where its options do not say.
-fn keeps(name: Name) -> bool
-    ensures { λ r. ⌜ r ≡ keepsOf (nameOf name) ⌝ }
-{
-    match name {
-        Name::Exset => false,
-        Name::Exget => false,
-        Name::Exsetver => false,
-        Name::Exincrby => true,
-        Name::Excas => false,
-        Name::Excad => false,
-        Name::Exappend => true,
-        Name::Exprepend => true,
-        Name::Exgae => false,
-        Name::Del => false,
-    }
-}
-
 // Whether a time word is given where one is needed.
 fn enough(name: Name, o: Options) -> bool
     ensures { λ r. ⌜ ((s : List ℕ) (gs : List Given) → Tied s gs o → r ≡ enough (ruleOf (nameOf name)) gs) ⌝ }
 {
-    if timed(name) {
+    if action::timed(name) {
         let g = o.groups[options::TIME];
         return g.given;
     }
@@ -131,7 +94,7 @@ fn parse_numbers(s: &[u8], time: u64, name: Name, a: Arguments, o: Options) -> P
         return Parsed::Refused(9);
     };
     let g = o.groups[options::TIME];
-    let ReadExpire::Value(expire) = values::expire_of(time, keeps(name), g, number) else {
+    let ReadExpire::Value(expire) = values::expire_of(time, action::keeps(name), g, number) else {
         return Parsed::Refused(10);
     };
     if values::ordered(min, max) {
@@ -146,7 +109,7 @@ fn parse_numbers(s: &[u8], time: u64, name: Name, a: Arguments, o: Options) -> P
 fn expire_unsaid(name: Name) -> Expire
     ensures { λ r. ⌜ r ≡ expireFrom (otherwise (keepsOf (nameOf name))) ⌝ }
 {
-    if keeps(name) {
+    if action::keeps(name) {
         return Expire::Keep;
     }
     Expire::Clear
@@ -175,7 +138,7 @@ fn parse_plain(s: &[u8], name: Name, a: Arguments) -> Parsed
     requires { ⌜ Stands (now s) (nameOf name) a ⌝ }
     ensures { λ r. ⌜ ((time : ℕ) → r ≡ parsedFrom (wordsOf (now (s .entry))) (fromEnough time (wordsOf (now (s .entry))) [] (nameOf name))) ⌝ }
 {
-    if timed(name) {
+    if action::timed(name) {
         return Parsed::Refused(8);
     }
     let key = a.key;

@@ -1,12 +1,5 @@
 // The jobs of the command line.
-use crate::init::init;
-use crate::listing::list;
 use crate::serve::serve;
-use crate::tell::REFUSED;
-use crate::tell::refuse;
-use crate::tell::refuse_call;
-use crate::tell::refuse_word;
-use crate::tell::usage;
 use commandline::Line;
 use commandline::ROOM;
 use commandline::compose;
@@ -14,6 +7,13 @@ use commandline::number_at;
 use commandline::path_at;
 use commandline::records_at;
 use libc::STDIN_FILENO;
+use maintenance::init;
+use maintenance::list;
+use notice::REFUSED;
+use notice::refuse;
+use notice::refuse_call;
+use notice::refuse_word;
+use notice::usage;
 use number::Natural;
 use tablefile::Loaded;
 use tablefile::put_new_name;

@@ -1,16 +1,10 @@
 // Commands on a table file, from the command line or from standard input. The script `pietrunel` at the repository's root runs this program:
 // it adds the time, and takes the exit status from descriptor 3.
 mod exchange;
-mod init;
 mod job;
-mod listing;
 mod serve;
-mod tell;
 
 use commandline::read_line;
-
-// The room for a table: one record more than it can have, so that a longer file is seen to be one.
-pub const SPACE: usize = 32896;
 
 // The descriptor that the status goes to.
 const STATUS_FILENO: i32 = 3;

@@ -1,21 +1,21 @@
 // One command on a table's file. It is applied to the file's bytes first; where that changes them, it is applied again by whoever holds the
 // table alone, since another process may have replaced the table in between.
-use crate::SPACE;
 use crate::exchange::Exchange;
 use crate::exchange::carry_out;
-use crate::tell::REFUSED;
-use crate::tell::refuse_call;
-use crate::tell::status_of;
 use access::Answer;
+use notice::REFUSED;
+use notice::refuse_call;
+use notice::status_of;
+use printed::print_reply;
 use tablefile::Loaded;
+use tablefile::SPACE;
 use tablefile::begin;
 use tablefile::cancel;
 use tablefile::finish;
 use tablefile::load;
 use terminal::print;
-use terminal::print_reply;
 ghost use mathlib.Core.Path.{_≡_};
-ghost use Rattle.shell.specs.Status.{statusOf};
+ghost use Rattle.notice.specs.Status.{statusOf};
 
 // The bytes of a new table's 16 empty records.
 const NEW_SIZE: usize = 2048;

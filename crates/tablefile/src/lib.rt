@@ -11,6 +11,9 @@ pub use replace::begin;
 pub use replace::cancel;
 pub use replace::finish;
 
+// The room for a table: one record more than it can have, so that a longer file is seen to be one.
+pub const SPACE: usize = 32896;
+
 // What became of reading a file into a buffer: how many bytes came, that there is no such file, or that it failed, which was told already.
 pub enum Loaded {
     Bytes(usize),

@@ -19,7 +19,8 @@ use Rattle.values.specs.declared.ReadExpire.the-variants as ReadExpire
 use Rattle.arguments.specs.Arguments.{fixedSaid}
 use Rattle.arguments.specs.declared.FixedNumber.{FixedNumber}
 use Rattle.arguments.specs.declared.FixedNumber.the-variants as FixedNumber
-use Rattle.parse.specs.Actions.{keepsOf, saidFrom, actionSaid}
+use Rattle.action.specs.Actions.{keepsOf, actionSaid}
+use Rattle.parse.specs.Said.{saidFrom}
 use Rattle.parse.proofs.Spans.{last-said, last-within}
 use Rattle.parse.proofs.Order.{to-nine, to-ten, to-eleven, to-end}
 use Rattle.parse.proofs.Nine.{fixed-bad, fixed-value, timeOf, numbers-bad, Read, numbers-read, expire-cond, expire-bad, expire-value, bound-back}

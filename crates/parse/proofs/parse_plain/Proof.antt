@@ -12,7 +12,7 @@ use Rattle.command.specs.Words.{nameOf}
 use Rattle.command.specs.declared.Parsed.the-variants as Parsed
 use Rattle.arguments.specs.Arguments.{fixedSaid}
 use Rattle.arguments.specs.declared.FixedNumber.{FixedNumber}
-use Rattle.parse.specs.Actions.{actionSaid}
+use Rattle.action.specs.Actions.{actionSaid}
 use Rattle.parse.proofs.Spans.{last-said, last-within}
 use Rattle.parse.proofs.Order.{plain-timed, plain-nine, plain-end}
 use Rattle.parse.proofs.Nine.{fixed-bad, fixed-value}

@@ -5,7 +5,7 @@ use mathlib.Core.List.{[]}
 use Rattle.command.specs.declared.Change.the-variants as Change
 use Rattle.command.specs.declared.Bound.the-variants as Bound
 use Rattle.command.specs.declared.Expire.{Expire}
-use Rattle.parse.specs.Actions.{saidWith}
+use Rattle.parse.specs.Said.{saidWith}
 use Rattle.parse.proofs.unsaid.Statement.{statement}
 use Rattle.parse.proofs.unsaid.Tie as tie
 

@@ -1,20 +1,15 @@
--- The action of a command, by its name, its fixed words and what its options say.
+-- What the name of a command settles: whether it keeps the expiry, and the action that its fixed words and its options make.
 use Prim.Native.Nat.{ℕ}
 use mathlib.Core.Bool.{Bool, true, false}
-use mathlib.Core.List.{List}
 use lib.IntN.{ℤ}
 use Rattle.model.specs.Command as model
-use Rattle.model.specs.Command.{Name, pick, has}
-use Rattle.command.specs.Command.{expireOf, presenceFrom, changeFrom, expireFrom, boundFrom}
+use Rattle.model.specs.Command.{Name}
+use Rattle.command.specs.Command.{expireOf}
 use Rattle.command.specs.declared.Span.{Span}
-use Rattle.command.specs.declared.Change.{Change}
-use Rattle.command.specs.declared.Expire.{Expire}
-use Rattle.command.specs.declared.Bound.{Bound}
 use Rattle.command.specs.declared.End.the-variants as End
 use Rattle.command.specs.declared.Action.{Action}
 use Rattle.command.specs.declared.Action.the-variants as Action
-use Rattle.values.specs.Values.{otherwise}
-use Rattle.parse.specs.declared.action.Said.{Said}
+use Rattle.action.specs.declared.Said.{Said}
 
 -- whether a command keeps the expiry where its options do not say; any other clears it
 abbrev pub keepsOf : Name → Bool
@@ -28,26 +23,6 @@ keepsOf model.EXAPPEND = true
 keepsOf model.EXPREPEND = true
 keepsOf model.EXGAE = false
 keepsOf model.DEL = false
-
--- what the options gs say, with their numbers
-abbrev pub saidWith : List model.Given → Change → Expire → (flags : ℕ) → (min max : Bound) → Said
-saidWith gs c e f a b = record {
-  presence = presenceFrom (model.presenceOf (pick model.nxOrXx gs));
-  change = c;
-  expire = e;
-  flags = f;
-  min = a;
-  max = b;
-  nonnegative = has model.nonNegative gs;
-  withversion = has model.withVersion gs;
-  withflags = has model.withFlags gs;
-}
-
--- the same at the time `now`
-abbrev pub saidFrom : (now : ℕ) → (keeps : Bool) → List model.Given → Said
-saidFrom now keeps gs =
-    saidWith gs (changeFrom (model.changeOf (pick model.verOrAbs gs))) (expireFrom (model.expireOf now (otherwise keeps) (pick model.timeWord gs)))
-    (model.flagsGiven (pick model.flagsWord gs)) (boundFrom (model.boundOf (pick model.minWord gs))) (boundFrom (model.boundOf (pick model.maxWord gs)))
 
 -- the action of EXSET with the value v
 abbrev pub setSaid : Span → Said → Action

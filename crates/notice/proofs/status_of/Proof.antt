@@ -1,7 +1,7 @@
--- `tell::status_of` meets its contract: its tests are the definition's.
+-- `notice::status_of` meets its contract: its tests are the definition's.
 use borrow.Author.Tests.{ne-eqb}
-use Rattle.shell.proofs.tell.status_of.Statement.{statement}
-use Rattle.shell.proofs.tell.status_of.Tie as tie
+use Rattle.notice.proofs.status_of.Statement.{statement}
+use Rattle.notice.proofs.status_of.Tie as tie
 
 returns : tie.Need-returns
 returns c = rw (c .if1 .taken)

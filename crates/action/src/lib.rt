@@ -1,4 +1,5 @@
-// The action of a command, from its name, its fixed words and what its options say.
+// What the name of a command settles: whether it needs a time word, whether it keeps the expiry, and the action that its fixed words and its
+// options make.
 use command::Action;
 use command::Bound;
 use command::Change;
@@ -10,11 +11,47 @@ use command::Presence;
 use command::Set;
 use command::Span;
 ghost use mathlib.Core.Path.{_≡_};
-ghost use Rattle.model.specs.Command.{expirySet};
+ghost use Rattle.model.specs.Command.{ruleOf, expirySet};
 ghost use Rattle.command.specs.Command.{expireOf};
 ghost use Rattle.command.specs.Words.{nameOf};
 ghost use Rattle.command.specs.declared.Action.the-variants as ActionOf;
-ghost use Rattle.parse.specs.Actions.{setSaid, incrementSaid, actionSaid};
+ghost use Rattle.action.specs.Actions.{keepsOf, setSaid, incrementSaid, actionSaid};
+
+// Whether a command needs a time word.
+pub fn timed(name: Name) -> bool
+    ensures { λ r. ⌜ r ≡ ruleOf (nameOf name) .timed ⌝ }
+{
+    match name {
+        Name::Exset => false,
+        Name::Exget => false,
+        Name::Exsetver => false,
+        Name::Exincrby => false,
+        Name::Excas => false,
+        Name::Excad => false,
+        Name::Exappend => false,
+        Name::Exprepend => false,
+        Name::Exgae => true,
+        Name::Del => false,
+    }
+}
+
+// Whether a command keeps the expiry where its options do not say.
+pub fn keeps(name: Name) -> bool
+    ensures { λ r. ⌜ r ≡ keepsOf (nameOf name) ⌝ }
+{
+    match name {
+        Name::Exset => false,
+        Name::Exget => false,
+        Name::Exsetver => false,
+        Name::Exincrby => true,
+        Name::Excas => false,
+        Name::Excad => false,
+        Name::Exappend => true,
+        Name::Exprepend => true,
+        Name::Exgae => false,
+        Name::Del => false,
+    }
+}
 
 // What the options of a command say.
 pub struct Said {

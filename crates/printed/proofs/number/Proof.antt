@@ -2,8 +2,8 @@
 use Prim.Native.Nat.{_≤_, _-_}
 use lib.ListN.{length}
 use borrow.Author.Needs.{needs}
-use Rattle.terminal.proofs.printed.number.Statement.{statement}
-use Rattle.terminal.proofs.printed.number.Tie as tie
+use Rattle.printed.proofs.number.Statement.{statement}
+use Rattle.printed.proofs.number.Tie as tie
 
 abbrev Inv-loop : tie.InvT-loop
 Inv-loop text n₀ i₀ n i = n ≤ 1000

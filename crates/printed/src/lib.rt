@@ -1,9 +1,9 @@
 // A RESP2 reply, printed as redis-cli prints it. Where the bytes are no RESP2, a place is given back
 // as 0.
-use crate::escape::print_quoted;
-use crate::text::find;
-use crate::text::print;
 use libc::STDOUT_FILENO;
+use terminal::find;
+use terminal::print;
+use terminal::print_quoted;
 ghost use Prim.Native.Nat.{_≤_};
 ghost use lib.ListN.{length};
 

@@ -5,8 +5,8 @@ use borrow.Author.Tests.{not-false}
 use Rattle.model.specs.Table.{form128, readTable}
 use Rattle.model.specs.Command.{isSome}
 use borrow.Author.Needs.{needs}
-use Rattle.shell.proofs.listing.list_table.Statement.{statement}
-use Rattle.shell.proofs.listing.list_table.Tie as tie
+use Rattle.maintenance.proofs.listing.list_table.Statement.{statement}
+use Rattle.maintenance.proofs.listing.list_table.Tie as tie
 
 reads : (c : tie.Else1) → isSome (readTable form128 (c .before .before .before .before .args .table .now)) ≡ true
 reads c = sym (c .before .records-ok .ensures) ∙ not-false _ (c .if1 .left)

@@ -1,11 +1,11 @@
 // The records of a table, a line each.
-use crate::SPACE;
-use crate::tell::DONE;
-use crate::tell::REFUSED;
-use crate::tell::refuse_call;
-use crate::tell::refuse_file;
 use command::LATEST;
+use notice::DONE;
+use notice::REFUSED;
+use notice::refuse_call;
+use notice::refuse_file;
 use tablefile::Loaded;
+use tablefile::SPACE;
 use tablefile::load;
 use terminal::print;
 use terminal::print_natural;

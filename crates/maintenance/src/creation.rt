@@ -1,9 +1,9 @@
 // A new table.
-use crate::SPACE;
-use crate::tell::DONE;
-use crate::tell::REFUSED;
-use crate::tell::refuse_file;
+use notice::DONE;
+use notice::REFUSED;
+use notice::refuse_file;
 use tablefile::Loaded;
+use tablefile::SPACE;
 use tablefile::begin;
 use tablefile::cancel;
 use tablefile::finish;

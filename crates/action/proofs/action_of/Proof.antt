@@ -1,14 +1,14 @@
--- `parse::action::action_of` meets its contract: each name has its action.
+-- `action::action_of` meets its contract: each name has its action.
 use Prim.Native.Nat.{ℕ}
 use mathlib.Core.Path.{_≡_, sym, ap, _∙_}
 use Rattle.command.specs.Words.{nameOf}
 use Rattle.command.specs.declared.Name.{Name}
 use Rattle.command.specs.declared.Action.the-variants as Action
 use Rattle.number.proofs.Integers.{back-is}
-use Rattle.parse.specs.Actions.{actionSaid}
+use Rattle.action.specs.Actions.{actionSaid}
 use borrow.Author.Needs.{needs}
-use Rattle.parse.proofs.action.action_of.Statement.{statement}
-use Rattle.parse.proofs.action.action_of.Tie as tie
+use Rattle.action.proofs.action_of.Statement.{statement}
+use Rattle.action.proofs.action_of.Tie as tie
 
 row : (c : tie.Start) {n m : Name} → n ≡ m → let a = c .args in
     actionSaid (nameOf m) (a .value) (a .by) (a .version) (a .said) ≡ actionSaid (nameOf n) (a .value) (a .by) (a .version) (a .said)

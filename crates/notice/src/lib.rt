@@ -2,7 +2,7 @@
 use terminal::complain;
 use terminal::print;
 ghost use mathlib.Core.Path.{_≡_};
-ghost use Rattle.shell.specs.Status.{statusOf};
+ghost use Rattle.notice.specs.Status.{statusOf};
 
 // Answered.
 pub const DONE: u64 = 0;

@@ -10,8 +10,8 @@ use borrow.Author.Tests.{not-true}
 use Rattle.model.specs.Table.{Slot, isEmpty}
 use Rattle.table.specs.Slots.{slotsOf}
 use Rattle.table.proofs.Parts.{count, lent-slot, lent-readable, lent-in-use}
-use Rattle.shell.proofs.listing.list_records.Statement.{statement}
-use Rattle.shell.proofs.listing.list_records.Tie as tie
+use Rattle.maintenance.proofs.listing.list_records.Statement.{statement}
+use Rattle.maintenance.proofs.listing.list_records.Tie as tie
 
 abbrev Inv-loop : tie.InvT-loop
 Inv-loop table time n used₀ i₀ used i = (i ≤ n) × (used ≤ i) × (n ≡ length (slotsOf table)) × (n ≡ length table / 128)
