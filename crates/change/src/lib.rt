@@ -27,7 +27,7 @@ pub fn store(
     ensures { λ _. ⌜ now (table .exit) ≡ withSlot (now (table .entry)) slot (used (record { key = now (key .entry); value = now (value .entry); flags = flags; version = version; expiry = expiry })) ⌝ }
 {
     let from = slot * RECORD_SIZE;
-    record::write(
+    overwrite::write(
         &mut table[from..from + RECORD_SIZE],
         key,
         value,
@@ -44,7 +44,7 @@ pub fn set_version(table: &mut [u8], slot: usize, version: u64)
     ensures { λ _. ⌜ now (table .exit) ≡ withSlot (now (table .entry)) slot (used (withVersion version (recordIn (now (table .entry)) slot))) ⌝ }
 {
     let from = slot * RECORD_SIZE;
-    record::set_version(&mut table[from..from + RECORD_SIZE], version);
+    overwrite::set_version(&mut table[from..from + RECORD_SIZE], version);
 }
 
 // Stores an expiry in the record in use at a slot.
@@ -54,7 +54,7 @@ pub fn set_expiry(table: &mut [u8], slot: usize, expiry: u64)
     ensures { λ _. ⌜ now (table .exit) ≡ withSlot (now (table .entry)) slot (used (withExpiry expiry (recordIn (now (table .entry)) slot))) ⌝ }
 {
     let from = slot * RECORD_SIZE;
-    record::set_expiry(&mut table[from..from + RECORD_SIZE], expiry);
+    overwrite::set_expiry(&mut table[from..from + RECORD_SIZE], expiry);
 }
 
 // Makes a slot empty.
@@ -64,7 +64,7 @@ pub fn clear(table: &mut [u8], slot: usize)
     ensures { λ _. ⌜ now (table .exit) ≡ withSlot (now (table .entry)) slot empty ⌝ }
 {
     let from = slot * RECORD_SIZE;
-    record::clear(&mut table[from..from + RECORD_SIZE]);
+    overwrite::clear(&mut table[from..from + RECORD_SIZE]);
 }
 
 // Puts bytes after the value of the record in use at a slot.
@@ -75,7 +75,7 @@ pub fn append(table: &mut [u8], slot: usize, s: &[u8])
     ensures { λ _. ⌜ now (table .exit) ≡ withSlot (now (table .entry)) slot (used (withValue (recordIn (now (table .entry)) slot .value ++ now (s .entry)) (recordIn (now (table .entry)) slot))) ⌝ }
 {
     let from = slot * RECORD_SIZE;
-    record::append(&mut table[from..from + RECORD_SIZE], s);
+    overwrite::append(&mut table[from..from + RECORD_SIZE], s);
 }
 
 // Puts bytes before the value of the record in use at a slot.
@@ -86,5 +86,5 @@ pub fn prepend(table: &mut [u8], slot: usize, s: &[u8])
     ensures { λ _. ⌜ now (table .exit) ≡ withSlot (now (table .entry)) slot (used (withValue (now (s .entry) ++ recordIn (now (table .entry)) slot .value) (recordIn (now (table .entry)) slot))) ⌝ }
 {
     let from = slot * RECORD_SIZE;
-    record::prepend(&mut table[from..from + RECORD_SIZE], s);
+    overwrite::prepend(&mut table[from..from + RECORD_SIZE], s);
 }

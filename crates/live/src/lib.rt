@@ -15,7 +15,15 @@ ghost use Rattle.model.specs.Execute.{agrees, versionAfter, flagsAfter, expiryA
 ghost use Rattle.model.specs.Table.{form128, readTable};
 ghost use Rattle.command.specs.Command.{presenceOf, changeOf, expireOf};
 ghost use Rattle.change.specs.Slot.{InUseAt};
+ghost use Rattle.live.specs.Admission.{admissionOf};
 ghost use Rattle.live.specs.Live.{liveOf, Sound, IsLive, IsRecordAt, flagsOf, versionFrom};
+
+// What NX, XX and VER let a write do: go on, answer nil, or be refused as stale.
+pub enum Admission {
+    Granted,
+    Nil,
+    Stale,
+}
 
 // The flags of a record that is written: those stored, or these.
 pub enum Flags {
@@ -51,21 +59,6 @@ pub fn record_at(table: &[u8], slot: usize) -> &[u8]
 {
     let from = slot * RECORD_SIZE;
     &table[from..from + RECORD_SIZE]
-}
-
-// Whether VER, if it is given, names the live record's version. An absent key has none to compare.
-pub fn agrees(table: &[u8], live: Found, change: Change) -> bool
-    requires { ⌜ Sound (now table) live ⌝ }
-    ensures { λ r. ⌜ r ≡ agrees (changeOf change) (liveOf (now (table .entry)) live) ⌝ }
-{
-    match change {
-        Change::Raise => true,
-        Change::Set(_) => true,
-        Change::RaiseFrom(expected) => match live {
-            Found::Nothing => true,
-            Found::At(slot) => expected == record::version(record_at(table, slot)),
-        },
-    }
 }
 
 // The version after a write: the one that ABS gives, else 1 for an absent key, else one higher.
@@ -125,7 +118,7 @@ pub fn expiry_after(table: &[u8], live: Found, expire: Expire) -> u64
 }
 
 // Whether NX or XX lets a write pass.
-pub fn allowed(presence: Presence, live: Found) -> bool
+fn allowed(presence: Presence, live: Found) -> bool
     ensures { λ r. ⌜ ((t : List ℕ) → r ≡ allowed (presenceOf presence) (liveOf t live)) ⌝ }
 {
     match presence {
@@ -139,4 +132,35 @@ pub fn allowed(presence: Presence, live: Found) -> bool
             Found::At(_) => true,
         },
     }
+}
+
+// Whether VER, if it is given, names the live record's version. An absent key has none to compare.
+fn agrees(table: &[u8], live: Found, change: Change) -> bool
+    requires { ⌜ Sound (now table) live ⌝ }
+    ensures { λ r. ⌜ r ≡ agrees (changeOf change) (liveOf (now (table .entry)) live) ⌝ }
+{
+    match change {
+        Change::Raise => true,
+        Change::Set(_) => true,
+        Change::RaiseFrom(expected) => match live {
+            Found::Nothing => true,
+            Found::At(slot) => expected == record::version(record_at(table, slot)),
+        },
+    }
+}
+
+// Tests NX and XX, and after them VER.
+pub fn admit(table: &[u8], live: Found, presence: Presence, change: Change) -> Admission
+    requires { ⌜ Sound (now table) live ⌝ }
+    ensures { λ r. ⌜ r ≡ admissionOf (allowed (presenceOf presence) (liveOf (now (table .entry)) live)) (agrees (changeOf change) (liveOf (now (table .entry)) live)) ⌝ }
+{
+    let allowed = allowed(presence, live);
+    let agrees = agrees(table, live, change);
+    if !allowed {
+        return Admission::Nil;
+    }
+    if !agrees {
+        return Admission::Stale;
+    }
+    Admission::Granted
 }

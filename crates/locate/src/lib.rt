@@ -12,10 +12,10 @@ ghost use Rattle.current.specs.Current.{shownFrom};
 pub fn locate(table: &[u8], time: u64, command: &[u8]) -> Shown
     ensures { λ r. ⌜ r ≡ shownFrom (currentValue form128 (now (table .entry)) time (now (command .entry))) ⌝ }
 {
-    if !table::records_ok(table) {
+    if !integrity::records_ok(table) {
         return Shown::Nothing;
     }
-    if !table::keys_ok(table) {
+    if !integrity::keys_ok(table) {
         return Shown::Nothing;
     }
     if LATEST < time {

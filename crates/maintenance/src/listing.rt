@@ -75,10 +75,10 @@ fn list_records(table: &[u8], time: u64)
 
 // Lists a table, or refuses one that is none.
 fn list_table(table: &[u8], path: &[u8], time: u64) -> u64 {
-    if !table::records_ok(table) {
+    if !integrity::records_ok(table) {
         return refuse_call(1, path);
     }
-    if !table::keys_ok(table) {
+    if !integrity::keys_ok(table) {
         return refuse_call(1, path);
     }
     if LATEST < time {

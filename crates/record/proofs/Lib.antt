@@ -2,5 +2,4 @@
 pub mod Pieces
 pub mod Reading
 pub mod Checking
-pub mod Changing
 pub mod KeyWords

@@ -17,10 +17,10 @@ const ROOM: usize = 128;
 pub fn call(table: &mut [u8], time: u64, command: &[u8], reply: &mut [u8]) -> Answer
     ensures { λ r. ⌜ Called (call form128 (now (table .entry)) time (now (command .entry)) (now (reply .entry))) r (now (table .exit)) (now (reply .exit)) ⌝ }
 {
-    if !table::records_ok(table) {
+    if !integrity::records_ok(table) {
         return Answer { number: 1, len: 0 };
     }
-    if !table::keys_ok(table) {
+    if !integrity::keys_ok(table) {
         return Answer { number: 1, len: 0 };
     }
     if LATEST < time {

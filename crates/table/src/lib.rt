@@ -1,11 +1,8 @@
-// The check of a table and the search of its slots.
-mod check;
-mod filter;
+// The search of the slots of a table.
 mod lookup;
 
-pub use check::keys_ok;
-pub use check::records_ok;
 pub use lookup::find;
+pub use lookup::find_from;
 pub use lookup::slot_for;
 
 // The bytes of a record.

@@ -25,9 +25,9 @@ use Rattle.access.specs.Gives.{outcomeOf, Replies}
 use Rattle.access.specs.declared.Answer.{Answer}
 use Rattle.access.proofs.Answers.{outcome-replied}
 use Rattle.write.specs.Finish.{StoredOk}
-use Rattle.write.specs.Admission.{admissionOf}
-use Rattle.write.specs.declared.Admission.{Admission}
-use Rattle.write.specs.declared.Admission.the-variants.{Granted, Nil, Stale}
+use Rattle.live.specs.Admission.{admissionOf}
+use Rattle.live.specs.declared.Admission.{Admission}
+use Rattle.live.specs.declared.Admission.the-variants.{Granted, Nil, Stale}
 use Rattle.write.proofs.Writes.{putNew, write-stale, write-passes}
 
 -- where a command is carried out: its time and key, the bytes of the table and of the reply buffer, and the slot of the live record

@@ -1,3 +1,2 @@
 pub mod Does
-pub mod Admission
 pub mod Finish

@@ -1,6 +1,5 @@
 // The commands that write a value: what each gives back, by the slot of the live record with its key.
 use access::Answer;
-use command::Bound;
 use command::Change;
 use command::End;
 use command::Expire;
@@ -8,6 +7,7 @@ use command::Increment;
 use command::Presence;
 use command::Set;
 use count::Total;
+use live::Admission;
 use live::Flags;
 use put::Stored;
 use table::Found;
@@ -19,7 +19,7 @@ ghost use Rattle.model.specs.Checked.{ok};
 ghost use Rattle.model.specs.Number.{versionLimit};
 ghost use Rattle.model.specs.Table.{form128, readTable};
 ghost use Rattle.model.specs.Command.{isSome, exset, exincrby, excas, exjoin};
-ghost use Rattle.model.specs.Execute.{answer, staleReply, valueIn, allowed, agrees};
+ghost use Rattle.model.specs.Execute.{answer, staleReply, valueIn};
 ghost use Rattle.model.proofs.Commands.{ChangeOk};
 ghost use Rattle.command.specs.Command.{presenceOf, changeOf, expireOf, boundOf, endOf};
 ghost use Rattle.change.specs.Slot.{recordIn, InUseAt};
@@ -28,31 +28,7 @@ ghost use Rattle.answer.specs.Replied.{Replied};
 ghost use Rattle.count.specs.Total.{totalFrom, totalOf};
 ghost use Rattle.access.specs.Gives.{Replies, held};
 ghost use Rattle.write.specs.Does.{Ready, Does};
-ghost use Rattle.write.specs.Admission.{admissionOf};
 ghost use Rattle.write.specs.Finish.{replyOf, StoredOk, Finishes};
-
-// What NX, XX and VER let a write do: go on, answer nil, or be refused as stale.
-enum Admission {
-    Granted,
-    Nil,
-    Stale,
-}
-
-// Tests NX and XX, and after them VER.
-fn admit(table: &[u8], live: Found, presence: Presence, change: Change) -> Admission
-    requires { ⌜ Sound (now table) live ⌝ }
-    ensures { λ r. ⌜ r ≡ admissionOf (allowed (presenceOf presence) (liveOf (now (table .entry)) live)) (agrees (changeOf change) (liveOf (now (table .entry)) live)) ⌝ }
-{
-    let allowed = live::allowed(presence, live);
-    let agrees = live::agrees(table, live, change);
-    if !allowed {
-        return Admission::Nil;
-    }
-    if !agrees {
-        return Admission::Stale;
-    }
-    Admission::Granted
-}
 
 // How a command answers once its value is stored. The flag says whether WITHVERSION is given.
 enum Success {
@@ -109,7 +85,7 @@ pub fn set(
 {
     let presence = set.presence;
     let change = set.change;
-    match admit(table, live, presence, change) {
+    match live::admit(table, live, presence, change) {
         Admission::Nil => access::nil(reply),
         Admission::Stale => access::refuse(reply, 12),
         Admission::Granted => {
@@ -152,7 +128,7 @@ pub fn increment(
 {
     let presence = increment.presence;
     let change = increment.change;
-    match admit(table, live, presence, change) {
+    match live::admit(table, live, presence, change) {
         Admission::Nil => access::nil(reply),
         Admission::Stale => access::refuse(reply, 12),
         Admission::Granted => match total(table, live, increment) {
@@ -230,7 +206,7 @@ pub fn join(
     requires { ⌜ (length (now value) ≤ 64) × ChangeOk (changeOf change) ⌝ }
     ensures { λ r. ⌜ Does (held (now (table .entry)) (now (reply .entry))) (held (now (table .exit)) (now (reply .exit))) time live (exjoin (endOf end) (now (key .entry)) (now (value .entry)) (presenceOf presence) (changeOf change)) r ⌝ }
 {
-    match admit(table, live, presence, change) {
+    match live::admit(table, live, presence, change) {
         Admission::Nil => access::nil(reply),
         Admission::Stale => access::refuse(reply, 12),
         Admission::Granted => {

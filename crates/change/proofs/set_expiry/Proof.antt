@@ -6,7 +6,7 @@ use lib.ListN.{length}
 use borrow.Author.Needs.{needs}
 use Rattle.model.specs.Bytes.{written, littleEndian}
 use Rattle.model.specs.Table.{expiryAt}
-use Rattle.record.proofs.Changing.{expiry-written}
+use Rattle.overwrite.proofs.Changing.{expiry-written}
 use Rattle.table.proofs.Parts.{lent-length}
 use Rattle.change.specs.Slot.{recordIn}
 use Rattle.change.proofs.Lent.{inside, replaced, within, lent-record}

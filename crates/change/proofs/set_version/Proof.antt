@@ -6,7 +6,7 @@ use lib.ListN.{length}
 use borrow.Author.Needs.{needs}
 use Rattle.model.specs.Bytes.{written, littleEndian}
 use Rattle.model.specs.Table.{versionAt}
-use Rattle.record.proofs.Changing.{version-written}
+use Rattle.overwrite.proofs.Changing.{version-written}
 use Rattle.table.proofs.Parts.{lent-length}
 use Rattle.change.specs.Slot.{recordIn}
 use Rattle.change.proofs.Lent.{inside, replaced, within, lent-record}

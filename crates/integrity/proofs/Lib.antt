@@ -1,0 +1,2 @@
+-- Laws of the filter and of equal keys.
+pub mod Keys
