@@ -2,16 +2,16 @@
 -- hold is unlike each of them, since equal keys have equal entries and marks; of any other the slots passed are searched.
 use Prim.Native.Nat.{ℕ, zero, suc, _-_, _/_, _≤_, _<_}
 use native.Mathlib.Omega.{arith}
-use mathlib.Core.Path.{_≡_, refl, sym, ap, _∙_}
+use mathlib.Core.Path.{_≡_, refl, ap, _∙_}
 use mathlib.Core.Bool.{Bool, true, false, cond, _||_, and-false}
 use mathlib.Core.List.{List, [], _∷_}
-use lib.Bits.{bitAnd, and-le-r}
+use lib.Bits.{and-le-r}
 use lib.Dec.{eqb}
 use lib.ListN.{length, drop, set, getD, length-set, drop-of-length-le}
 use lib.Seq.{drop-cons, getD-set-same}
 use borrow.Author.Tests.{eqb-true, eqb-false, eq-eqb, ne-eqb}
 use Rattle.model.specs.Table.{Slot, Record, empty, used, isEmpty, anyHolds, unlike, distinct}
-use Rattle.model.proofs.Basics.{or-left, or-right, or-true}
+use Rattle.model.proofs.Basics.{or-right, or-true}
 use Rattle.slice.proofs.Equal.{never, ne-same}
 use Rattle.integrity.specs.Hash.{keySpread, entryOf, markOf, covers, joined, mayHold, added}
 

@@ -2,13 +2,13 @@
 -- says of the part it says of slot i.
 use Prim.Native.Nat.{ℕ, _+_, _-_, _*_, _/_, _≤_, _<_}
 use native.Mathlib.Omega.{arith}
-use mathlib.Core.Path.{_≡_, sym, ap, _∙_}
-use mathlib.Core.Bool.{true, false}
+use mathlib.Core.Path.{_≡_, refl, sym, ap, _∙_}
+use mathlib.Core.Bool.{true, false, not}
 use mathlib.Core.List.{List}
 use mathlib.Core.Option.{Option, some, Option·getD}
 use lib.ListN.{length, take, drop, getD}
-use Rattle.model.specs.Bytes.{part, padded}
-use Rattle.model.specs.Table.{Slot, empty, used, isEmpty, fields, form128, readTable, readSlot, slotBytes, recordAt}
+use Rattle.model.specs.Bytes.{part, padded, fromLittleEndian}
+use Rattle.model.specs.Table.{Slot, empty, used, isEmpty, isExpired, live, fields, form128, readTable, readSlot, slotBytes, recordAt}
 use Rattle.model.specs.Command.{isSome}
 use Rattle.model.proofs.Records.{in-use-readSlot}
 use Rattle.slice.proofs.Written.{length-part, part-is}
@@ -47,6 +47,16 @@ module _ (t : List ℕ) (ok : isSome (readTable form128 t) ≡ true) where
 
     pub lent-bytes : slotBytes form128 (getD (slotsOf t) i empty) ≡ lent i t
     lent-bytes = rw (lent-is i t) (sym (slot-bytes t ok i h))
+
+    -- an empty record is live, since it has no expiry
+    pub lent-expired : (now : ℕ) → not (live now (fields (lent i t))) ≡ isExpired now (getD (slotsOf t) i empty)
+    unfolding fromLittleEndian
+    lent-expired now = go (getD (slotsOf t) i empty) lent-bytes (in-use-readSlot form128 (lent i t) (getD (slotsOf t) i empty) read)
+      where
+        go : (s : Slot) → slotBytes form128 s ≡ lent i t → (isEmpty s ≡ false → s ≡ used (fields (lent i t)))
+            → not (live now (fields (lent i t))) ≡ isExpired now s
+        go empty e u = ap (λ (b : List ℕ). not (live now (fields b))) (sym e)
+        go (used r) e u = ap (isExpired now) (sym (u refl))
 
     pub lent-readable : Readable (lent i t)
     lent-readable = record { size = size; read = ap isSome read }

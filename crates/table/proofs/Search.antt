@@ -37,18 +37,35 @@ module _ (p : Slot → Bool) (ss : List Slot) where
   unfolding lowestFrom
   lowest-start = sym (shifted-zero (lowest p ss))
 
-  pub lowest-end : (i : ℕ) → length ss ≤ i → lowestFrom p ss i ≡ none
+  lowest-end : (i : ℕ) → length ss ≤ i → lowestFrom p ss i ≡ none
   unfolding lowestFrom lowest
   lowest-end i h = rw (drop-of-length-le ss h)
 
   module _ (i : ℕ) (h : i < length ss) where
-    pub lowest-here : p (getD ss i empty) ≡ true → lowestFrom p ss i ≡ some i
+    lowest-here : p (getD ss i empty) ≡ true → lowestFrom p ss i ≡ some i
     unfolding lowestFrom lowest
     lowest-here e = rw (drop-cons ss i empty h, e, add-zero i)
 
-    pub lowest-next : p (getD ss i empty) ≡ false → lowestFrom p ss i ≡ lowestFrom p ss (i + 1)
+    lowest-next : p (getD ss i empty) ≡ false → lowestFrom p ss i ≡ lowestFrom p ss (i + 1)
     unfolding lowestFrom lowest
     lowest-next e = rw (drop-cons ss i empty h, e, add-one i) (shifted-suc i (lowest p (drop (suc i) ss)))
+
+-- what a loop for the answer o knows at slot i of n: no slot that it passed has the answer
+pub record Searched (p : Slot → Bool) (ss : List Slot) (o : Option ℕ) (n i : ℕ) : Type 0 where
+  pub within : i ≤ n
+  pub all : n ≡ length ss
+  pub left : o ≡ lowestFrom p ss i
+
+module _ {p : Slot → Bool} {ss : List Slot} {o : Option ℕ} {n i : ℕ} (q : Searched p ss o n i) where
+  pub search-end : n ≤ i → Nothing ≡ foundFrom o
+  search-end h = sym (ap foundFrom (q .left ∙ lowest-end p ss i (omega arith)))
+
+  module _ (h : i < n) where
+    pub search-here : p (getD ss i empty) ≡ true → At i ≡ foundFrom o
+    search-here e = sym (ap foundFrom (q .left ∙ lowest-here p ss i (omega arith) e))
+
+    pub search-next : p (getD ss i empty) ≡ false → Searched p ss o n (i + 1)
+    search-next e = record { within = omega arith; all = q .all; left = q .left ∙ lowest-next p ss i (omega arith) e }
 
 -- no record has a key longer than 24 bytes
 lowest-long : (k : List ℕ) → 24 < length k → (ss : List Slot) → All (Kept form128) ss → lowest (holds k) ss ≡ none
@@ -123,14 +140,20 @@ module _ (k : List ℕ) (ss : List Slot) (i : ℕ) where
 
 -- ---- the slot that a write takes
 
-module _ (now : ℕ) (k : List ℕ) (ss : List Slot) where
+module _ (now : ℕ) (ss : List Slot) where
   -- an empty slot, else an expired one
   abbrev free : Option ℕ
   free = orElse (lowest isEmpty ss) (lowest (isExpired now) ss)
 
-  pub slot-own : (i : ℕ) → foundFrom (keySlot k ss) ≡ At i → foundFrom (slotFor now k ss) ≡ At i
-  slot-own i e = ap foundFrom (slotFor-own now k ss i (sym (key-lowest k ss) ∙ found-at (keySlot k ss) i e))
+  pub free-empty : (i : ℕ) → foundFrom (lowest isEmpty ss) ≡ At i → foundFrom free ≡ At i
+  free-empty i e = rw (found-at (lowest isEmpty ss) i e)
 
-  pub slot-free : foundFrom (keySlot k ss) ≡ Nothing → slotFor now k ss ≡ free
+  pub free-expired : foundFrom (lowest isEmpty ss) ≡ Nothing → free ≡ lowest (isExpired now) ss
+  free-expired e = rw (found-nothing (lowest isEmpty ss) e)
+
+  pub slot-own : (k : List ℕ) (i : ℕ) → foundFrom (keySlot k ss) ≡ At i → foundFrom (slotFor now k ss) ≡ At i
+  slot-own k i e = ap foundFrom (slotFor-own now k ss i (sym (key-lowest k ss) ∙ found-at (keySlot k ss) i e))
+
+  pub slot-free : (k : List ℕ) → foundFrom (keySlot k ss) ≡ Nothing → slotFor now k ss ≡ free
   unfolding slotFor
-  slot-free e = rw (sym (key-lowest k ss) ∙ found-nothing (keySlot k ss) e)
+  slot-free k e = rw (sym (key-lowest k ss) ∙ found-nothing (keySlot k ss) e)

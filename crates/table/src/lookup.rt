@@ -56,31 +56,49 @@ pub fn find(table: &[u8], key: &[u8]) -> Found
     find_from(table, 0, key)
 }
 
-// The lowest empty slot, else the lowest with an expired record.
+// The lowest empty slot.
+fn empty_slot(table: &[u8]) -> Found
+    requires { ⌜ isSome (readTable form128 (now table)) ≡ true ⌝ }
+    ensures { λ r. ⌜ r ≡ foundFrom (lowest isEmpty (slotsOf (now (table .entry)))) ⌝ }
+{
+    let n = table.len() / RECORD_SIZE;
+    let mut i = 0;
+    while i < n {
+        let from = i * RECORD_SIZE;
+        if !record::in_use(&table[from..from + RECORD_SIZE]) {
+            return Found::At(i);
+        }
+        i += 1;
+    }
+    Found::Nothing
+}
+
+// The lowest slot with an expired record. An empty record has no expiry, so that its bytes need no test of their own.
+fn expired_slot(table: &[u8], now: u64) -> Found
+    requires { ⌜ isSome (readTable form128 (table .now)) ≡ true ⌝ }
+    ensures { λ r. ⌜ r ≡ foundFrom (lowest (isExpired now) (slotsOf (table .entry .now))) ⌝ }
+{
+    let n = table.len() / RECORD_SIZE;
+    let mut i = 0;
+    while i < n {
+        let from = i * RECORD_SIZE;
+        if !record::is_live(&table[from..from + RECORD_SIZE], now) {
+            return Found::At(i);
+        }
+        i += 1;
+    }
+    Found::Nothing
+}
+
+// The lowest empty slot, else the lowest with an expired record. Most tables have an empty slot, and one byte tells of it.
 pub fn free_slot(table: &[u8], now: u64) -> Found
     requires { ⌜ isSome (readTable form128 (table .now)) ≡ true ⌝ }
     ensures { λ r. ⌜ r ≡ foundFrom (orElse (lowest isEmpty (slotsOf (table .entry .now))) (lowest (isExpired now) (slotsOf (table .entry .now)))) ⌝ }
 {
-    let n = table.len() / RECORD_SIZE;
-    let mut expired = n;
-    let mut i = 0;
-    while i < n {
-        let from = i * RECORD_SIZE;
-        let r = &table[from..from + RECORD_SIZE];
-        if !record::in_use(r) {
-            return Found::At(i);
-        }
-        if expired == n {
-            if !record::is_live(r, now) {
-                expired = i;
-            }
-        }
-        i += 1;
-    }
-    if expired < n {
-        return Found::At(expired);
-    }
-    Found::Nothing
+    let Found::At(free) = empty_slot(table) else {
+        return expired_slot(table, now);
+    };
+    Found::At(free)
 }
 
 // The slot that a write to the key takes where no live record has it: its own record, else a free one.

@@ -1,21 +1,21 @@
 -- `table::lookup::find_words` meets its contract. The loop's invariant: the lowest slot that holds the key is the lowest of those left.
-use Prim.Native.Nat.{_-_, _≤_}
+use Prim.Native.Nat.{_-_}
 use native.Mathlib.Omega.{arith}
 use mathlib.Core.Path.{_≡_, refl, sym, ap, _∙_}
-use lib.ListN.{length, getD}
+use lib.ListN.{getD}
 use borrow.Author.Needs.{needs}
 use Rattle.model.specs.Table.{empty, holds}
 use Rattle.slice.proofs.LittleEndian.{Bytes}
 use Rattle.record.proofs.KeyWords.{hasWordsOf, holds-words}
-use Rattle.table.specs.Slots.{slotsOf, foundFrom, lowestFrom}
-use Rattle.table.proofs.Search.{lowest-here, lowest-next, lowest-end}
+use Rattle.table.specs.Slots.{slotsOf, lowestFrom}
+use Rattle.table.proofs.Search.{Searched, search-here, search-next, search-end}
 use Rattle.table.proofs.Parts.{lent, bytes-lent, count, lent-slot, lent-readable}
 use Rattle.table.proofs.lookup.find_words.Statement.{statement}
 use Rattle.table.proofs.lookup.find_words.Tie as tie
 
 abbrev Inv-loop : tie.InvT-loop
 Inv-loop table first key a b c size n i₀ i =
-    (i ≤ n) × (n ≡ length (slotsOf table)) × (lowestFrom (holds key) (slotsOf table) first ≡ lowestFrom (holds key) (slotsOf table) i)
+    Searched (holds key) (slotsOf table) (lowestFrom (holds key) (slotsOf table) first) n i
 
 abbrev μ-loop : tie.MeasureT-loop
 μ-loop table first key a b c size n i₀ i = n - i
@@ -27,7 +27,7 @@ loop-holds : tie.Need-loop-holds Inv-loop μ-loop
 loop-holds c =
     let s = c .before .before in
     let t = s .args .table .now in
-    (omega (arith, count t (s .pre .0), s .pre .1 .0), count t (s .pre .0), refl)
+    record { within = omega (arith, count t (s .pre .0), s .pre .1 .0); all = count t (s .pre .0); left = refl }
 
 mul-from : tie.Need-mul-from Inv-loop μ-loop
 mul-from c = search needs
@@ -68,11 +68,8 @@ told c =
 
 returns : tie.Need-returns Inv-loop μ-loop
 returns c =
-    let l = c .before .before .before .before in
-    let s = l .before .before .before in
-    let t = s .args .table .now in
-    let k = s .args .key .now in
-    sym (ap foundFrom (l .loop .inv .2 ∙ lowest-here (holds k) (slotsOf t) (l .loop .i) (omega arith) (sym (told (c .before)) ∙ c .if1 .taken)))
+    let l = c .before .before .before in
+    search-here (l .before .loop .inv) (l .loop-test .taken) (sym (told (c .before)) ∙ c .if1 .taken)
 
 add-i : tie.Need-add-i Inv-loop μ-loop
 add-i c = search needs
@@ -82,17 +79,11 @@ loop-less c = search needs
 
 loop-again : tie.Need-loop-again Inv-loop μ-loop
 loop-again c =
-    let l = c .before .before .before .before in
-    let s = l .before .before .before in
-    let t = s .args .table .now in
-    let k = s .args .key .now in
-    (omega arith, l .loop .inv .1, l .loop .inv .2 ∙ lowest-next (holds k) (slotsOf t) (l .loop .i) (omega arith) (sym (told (c .before)) ∙ c .if1 .left))
+    let l = c .before .before .before in
+    search-next (l .before .loop .inv) (l .loop-test .taken) (sym (told (c .before)) ∙ c .if1 .left)
 
 returns-2 : tie.Need-returns-2 Inv-loop μ-loop
-returns-2 c =
-    let l = c .before in
-    let s = l .before .before .before in
-    sym (ap foundFrom (l .loop .inv .2 ∙ lowest-end (holds (s .args .key .now)) (slotsOf (s .args .table .now)) (l .loop .i) (omega arith)))
+returns-2 c = search-end (c .before .loop .inv) (c .loop-test .left)
 
 pub find-words-spec : {M : Type 1} → statement M
 find-words-spec =

@@ -23,13 +23,13 @@ returns c =
     let f = c .before .before .before in
     let s = f .before .before .before in
     c .free-slot .ensures
-    ∙ sym (ap foundFrom (slot-free (s .args .now) (s .args .key .now) (slotsOf (s .args .table .now)) (sym (f .find .ensures) ∙ c .before .enum-told .given .1)))
+    ∙ sym (ap foundFrom (slot-free (s .args .now) (slotsOf (s .args .table .now)) (s .args .key .now) (sym (f .find .ensures) ∙ c .before .enum-told .given .1)))
 
 returns-2 : tie.Need-returns-2
 returns-2 c =
     let f = c .before .before .before in
     let s = f .before .before .before in
-    sym (slot-own (s .args .now) (s .args .key .now) (slotsOf (s .args .table .now)) _ (sym (f .find .ensures) ∙ c .before .own .given .1))
+    sym (slot-own (s .args .now) (slotsOf (s .args .table .now)) (s .args .key .now) _ (sym (f .find .ensures) ∙ c .before .own .given .1))
 
 pub slot-for-spec : {M : Type 1} → statement M
 slot-for-spec =
