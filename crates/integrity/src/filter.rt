@@ -3,20 +3,26 @@
 ghost use mathlib.Core.Path.{_≡_};
 ghost use Prim.Native.Nat.{_≤_};
 ghost use lib.ListN.{length};
-ghost use Rattle.integrity.specs.Hash.{spreadOf, mayHold, added, joined};
+ghost use Rattle.integrity.specs.Hash.{spreadOf, withWord, mayHold, added, joined};
 
-// A number from the 24 bytes of a key and the zeros after it. The factors are below 2^29, so that the sum fits.
+// A number from the 24 bytes of a key and the zeros after it: the three words made one, and each half of it times a factor. The factors are
+// below 2^31, so that the sum fits.
 pub fn spread(key: &[u8]) -> u64
     requires { ⌜ length (now key) ≡ 24 ⌝ }
     ensures { λ n. ⌜ n ≡ spreadOf (now (key .entry)) ⌝ }
 {
-    let a = slice::get4(key, 0) as u64 * 506952113;
-    let b = slice::get4(key, 4) as u64 * 99338871;
-    let c = slice::get4(key, 8) as u64 * 472591075;
-    let d = slice::get4(key, 12) as u64 * 131394351;
-    let e = slice::get4(key, 16) as u64 * 374761393;
-    let f = slice::get4(key, 20) as u64 * 434337695;
-    a + b + c + d + e + f
+    let two = with_word(slice::get8(key, 0), slice::get8(key, 8));
+    let all = with_word(two, slice::get8(key, 16));
+    all % 4294967296 * 1338933397 + all / 4294967296 * 1688876449
+}
+
+// Nine times x and one word more, modulo 2^64. Nine times is one instruction, and the same bytes count differently in each word.
+fn with_word(x: u64, word: u64) -> u64
+    ensures { λ r. ⌜ r ≡ withWord x word ⌝ }
+{
+    let eight = x % 2305843009213693952 * 8;
+    let nine = std::num::wrapping_add_u64(x, eight);
+    std::num::wrapping_add_u64(nine, word)
 }
 
 // Adds a key by its spread. Whether the filter may hold the key already; it then stays as it is.
@@ -25,7 +31,7 @@ pub fn add(seen: &mut [u8], n: u64) -> bool
     ensures { λ held. ⌜ (held ≡ mayHold (now (seen .entry)) n) × (now (seen .exit) ≡ added (now (seen .entry)) n) ⌝ }
 {
     let at = (n / 16777216) as usize & (seen.len() - 1);
-    let mark = (1 + n / 1099511627776 % 128) as u8;
+    let mark = (1 + n / 2199023255552 % 128 * 2) as u8;
     let old = seen[at];
     if (old == mark) | (old == 255) {
         return true;

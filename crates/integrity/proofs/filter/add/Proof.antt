@@ -1,6 +1,5 @@
 -- `integrity::filter::add` meets its contract. The mask keeps the entry within the filter.
-use native.Mathlib.Omega.{arith}
-use mathlib.Core.Path.{_≡_, sym}
+use mathlib.Core.Path.{sym}
 use lib.ListN.{length}
 use Rattle.integrity.specs.Hash.{entryOf, markOf}
 use Rattle.integrity.proofs.Keys.{entry-within}
@@ -10,6 +9,9 @@ use Rattle.integrity.proofs.filter.add.Tie as tie
 
 sub-at : tie.Need-sub-at
 sub-at c = search needs
+
+mul-mark : tie.Need-mul-mark
+mul-mark c = search needs
 
 add-mark : tie.Need-add-mark
 add-mark c = search needs
@@ -44,6 +46,7 @@ add-spec =
     tie.close
     (tie.spec
     sub-at
+    mul-mark
     add-mark
     cast-mark
     slice-read-old
