@@ -3,8 +3,8 @@ use Prim.Native.Nat.{ℕ, _+_, _-_, _≤_, _<_}
 use native.Mathlib.Omega.{arith}
 use mathlib.Core.Path.{_≡_, refl, sym, ap, _∙_}
 use mathlib.Core.Bool.{Bool, true, false, cond}
-use mathlib.Core.List.{List, _∷_, _++_}
-use mathlib.Core.Option.{Option, none, some, Option·some-injective}
+use mathlib.Core.List.{List, [], _∷_, _++_}
+use mathlib.Core.Option.{Option, none, some, Option·some-injective, Option·none-ne-some}
 use lib.Dec.{leb}
 use lib.ListN.{length, drop, take, length-drop}
 use lib.Seq.{drop-drop}
@@ -80,6 +80,30 @@ line-suffix mark s {t} e =
     let whole : b .0 ≡ (take k (b .0) ++ crlf) ++ t .rest =
     drop-append (b .0) k crlf (t .rest) (lineEnd-some (drop k (b .0)) (r .1) ∙ ap (λ (u : List ℕ). crlf ++ u) left) in
     (mark ∷ (take k (b .0) ++ crlf), skip-some mark s (b .1) ∙ ap (λ (u : List ℕ). mark ∷ u) whole)
+
+nat-least : (s : List ℕ) {n : ℕ} → readNat s ≡ some n → 1 ≤ length s
+nat-least [] {n} e = absurd (Option·none-ne-some n e)
+nat-least (c ∷ s) e = omega arith
+
+-- a line has a mark, a digit, CR and LF
+line-least : (mark : ℕ) (s : List ℕ) {t : Taken ℕ} → readLine mark s ≡ some t → 4 ≤ length s
+unfolding readLine
+line-least mark s e =
+    let b = bind-some (skip mark s) _ e in
+    let d = bind-some (readNat (leadingDigits (b .0))) _ (b .2) in
+    let k = length (leadingDigits (b .0)) in
+    let r = bind-some (skipLineEnd (drop k (b .0))) _ (d .2) in
+    let marked = ap length (skip-some mark s (b .1)) in
+    let ended = ap length (lineEnd-some (drop k (b .0)) (r .1)) in
+    omega (arith, length-drop k (b .0), nat-least (leadingDigits (b .0)) (d .1))
+
+pub line-short : (mark : ℕ) (s : List ℕ) (at : ℕ) → length s < at + 4 → lineFrom mark s at ≡ Malformed
+unfolding lineFrom
+line-short mark s at h = go (readLine mark (drop at s)) refl
+  where
+    go : (o : Option (Taken ℕ)) → readLine mark (drop at s) ≡ o → lineOf (length s) o ≡ Malformed
+    go none q = refl
+    go (some t) q = absurd (omega (arith, length-drop at s, line-least mark (drop at s) q))
 
 pub line-tail : (mark : ℕ) (s : List ℕ) (at : ℕ) {t : Taken ℕ} → readLine mark (drop at s) ≡ some t
     → Tail s (t .rest) (length s - length (t .rest))

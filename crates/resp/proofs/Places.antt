@@ -1,10 +1,10 @@
 -- Bytes at a place, and the bytes left after them: what is left is a tail of the whole, so a place says the same as the bytes left.
-use Prim.Native.Nat.{ℕ, _+_, _-_, _≤_, _<_}
+use Prim.Native.Nat.{ℕ, suc, _+_, _-_, _≤_, _<_}
 use native.Mathlib.Omega.{arith}
 use native.Mathlib.Nat.{add-zero}
 use native.Mathlib.Numerals.{add-one}
-use mathlib.Core.Path.{_≡_, sym, ap, _∙_}
-use mathlib.Core.Bool.{true, false}
+use mathlib.Core.Path.{_≡_, refl, sym, ap, _∙_}
+use mathlib.Core.Bool.{Bool, true, false, cond}
 use mathlib.Core.List.{List, [], _∷_, _++_, append-assoc}
 use mathlib.Core.Option.{Option, none, some, Option·none-ne-some}
 use lib.Dec.{eqb}
@@ -13,7 +13,7 @@ use lib.Seq.{drop-cons, drop-at, drop-drop, getD-drop}
 use borrow.Author.Tests.{eq-eqb, ne-eqb, eqb-true}
 use Rattle.model.specs.Bytes.{crlf}
 use Rattle.model.specs.Resp.{skip, skipLineEnd}
-use Rattle.resp.specs.Words.{endsLine}
+use Rattle.resp.specs.Words.{present, endsLine}
 use Rattle.resp.proofs.Optional.{bind-some, cond-some, present-some, present-none}
 
 -- ---- one byte
@@ -80,3 +80,25 @@ ends-line s at e =
 pub ends-not : (s : List ℕ) → endsLine s ≡ false → skipLineEnd s ≡ none
 unfolding endsLine
 ends-not s e = present-none (skipLineEnd s) e
+
+-- the tests of a line's end: a byte is missing, the first is not CR, or the second says it
+module _ (s : List ℕ) (at : ℕ) where
+  pub ends-short : length s < at + 2 → endsLine (drop at s) ≡ false
+  ends-short h = go (endsLine (drop at s)) refl
+    where
+      go : (b : Bool) → endsLine (drop at s) ≡ b → endsLine (drop at s) ≡ false
+      go true t = absurd (omega (arith, ends-line s at t .within))
+      go false t = t
+
+  module _ (h : at + 2 ≤ length s) where
+    pub ends-other : (getD s at 0 ≡ 13 → ⊥) → endsLine (drop at s) ≡ false
+    unfolding endsLine
+    ends-other n = simp (skip-other s at 13 (omega arith) n)
+
+    pub ends-by : getD s at 0 ≡ 13 → endsLine (drop at s) ≡ eqb (getD s (at + 1) 0) 10
+    unfolding endsLine
+    ends-by e = simp (skip-same s at 13 (omega arith) e, drop-cons s (at + 1) 0 (omega arith)) (shown (eqb (getD s (at + 1) 0) 10))
+      where
+        shown : (b : Bool) → present (cond b (some (drop (suc (at + 1)) s)) none) ≡ b
+        shown true = refl
+        shown false = refl

@@ -5,7 +5,7 @@ use mathlib.Core.List.{List}
 use mathlib.Core.Option.{Option, none, some}
 use lib.ListN.{length, drop, getD}
 use lib.Dec.{leb}
-use Rattle.model.specs.Number.{isDigit, readDigits, readNat}
+use Rattle.model.specs.Number.{isDigit, readNat}
 use Rattle.model.specs.Resp.{commandLimit, arrayMark, line, Taken, leadingDigits, skipLineEnd, readLine, readBulk, readBulks}
 use Rattle.resp.specs.declared.Line.{Line}
 use Rattle.resp.specs.declared.Line.the-variants as Line
@@ -21,15 +21,11 @@ abbrev pub limited : (next : ℕ) → Option ℕ → Line
 limited next none = Line.Malformed
 limited next (some n) = cond (leb n commandLimit) (Line.Number n next) Line.Malformed
 
--- whether there is a digit at a place; none is past the end
-abbrev pub digitAt : List ℕ → ℕ → Bool
-digitAt s at = isDigit (getD s at 0)
+-- the digit at a place, and 10 where there is none
+unfoldable pub digitAt : List ℕ → ℕ → ℕ
+digitAt s at = let c = getD s at 0 in cond (isDigit c) (c - 48) 10
 
--- the digits at the front of s, read after digits that say a; s begins at place `at`
-unfoldable pub digitsFrom : (a : ℕ) → List ℕ → (at : ℕ) → Line
-digitsFrom a s at = limited (at + length (leadingDigits s)) (readDigits a (leadingDigits s))
-
--- the same without extra zeros
+-- the number at the front of s, in digits without extra zeros; s begins at place `at`
 unfoldable pub numberFrom : List ℕ → (at : ℕ) → Line
 numberFrom s at = limited (at + length (leadingDigits s)) (readNat (leadingDigits s))
 

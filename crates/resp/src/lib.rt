@@ -1,11 +1,11 @@
 // The words of a command in RESP2, taken by a reader that holds the command and a place in it. Each function over a reader takes it apart and
 // calls one on slice and number; `read_word` and `ends_at` stand above them, so that no other function holds a reader.
 ghost use mathlib.Core.Path.{_≡_};
-ghost use Prim.Native.Nat.{_≤_, _<_};
-ghost use lib.ListN.{length, drop};
+ghost use Prim.Native.Nat.{_+_, _≤_};
+ghost use lib.ListN.{length, drop, getD};
 ghost use lib.Dec.{leb};
 ghost use Rattle.model.specs.Resp.{commandLimit, wordLimit, decode};
-ghost use Rattle.resp.specs.Words.{digitAt, digitsFrom, numberFrom, endsLine, lineFrom, wordFrom, hasWords, countFrom, firstWord};
+ghost use Rattle.resp.specs.Words.{digitAt, numberFrom, endsLine, lineFrom, wordFrom, hasWords, countFrom, firstWord};
 
 // A line's number, and the place after the line.
 pub enum Line {
@@ -35,53 +35,53 @@ pub struct Reader<'a> {
     pub at: usize,
 }
 
-// Whether a digit stands at place `at`.
-fn digit_at(s: &[u8], at: usize) -> bool
+// The digit at place `at`, and 10 where there is none.
+fn digit_at(s: &[u8], at: usize) -> usize
     ensures { λ r. ⌜ r ≡ digitAt (now (s .entry)) at ⌝ }
 {
     if s.len() <= at {
-        return false;
+        return 10;
     }
     let c = s[at];
     if c < 48 {
-        return false;
+        return 10;
     }
-    c <= 57
+    if 57 < c {
+        return 10;
+    }
+    (c - 48) as usize
 }
 
-// The number of the digits at place `at`, up to 512, and the place after them; no digits are 0.
-fn read_digits(s: &[u8], at: usize) -> Line
-    requires { ⌜ at ≤ length (now s) ⌝ }
-    ensures { λ r. ⌜ r ≡ digitsFrom 0 (drop at (now (s .entry))) at ⌝ }
-{
-    let mut value: usize = 0;
-    let mut next = at;
-    while digit_at(s, next) {
-        value = 10 * value + (s[next] - 48) as usize;
-        if 512 < value {
-            return Line::Malformed;
-        }
-        next += 1;
-    }
-    Line::Number { value, next }
-}
-
-// The number at place `at`, up to 512 and without extra zeros, and the place after it.
+// The number at place `at`, up to 512 and without extra zeros, and the place after it. Three digits are the most, so there is no loop.
 fn read_number(s: &[u8], at: usize) -> Line
-    requires { ⌜ at ≤ length (now s) ⌝ }
+    requires { ⌜ at + 3 ≤ length (now s) ⌝ }
     ensures { λ r. ⌜ r ≡ numberFrom (drop at (now (s .entry))) at ⌝ }
 {
-    let Line::Number { value, next } = read_digits(s, at) else {
-        return Line::Malformed;
-    };
-    let count = next - at;
-    if count == 0 {
+    let value = digit_at(s, at);
+    if 9 < value {
         return Line::Malformed;
     }
-    if s[at] == 48 {
-        if 1 < count {
-            return Line::Malformed;
-        }
+    let next = at + 1;
+    let digit = digit_at(s, next);
+    if 9 < digit {
+        return Line::Number { value, next };
+    }
+    if value == 0 {
+        return Line::Malformed;
+    }
+    let value = 10 * value + digit;
+    let next = next + 1;
+    let digit = digit_at(s, next);
+    if 9 < digit {
+        return Line::Number { value, next };
+    }
+    let value = 10 * value + digit;
+    let next = next + 1;
+    if digit_at(s, next) < 10 {
+        return Line::Malformed;
+    }
+    if 512 < value {
+        return Line::Malformed;
     }
     Line::Number { value, next }
 }
@@ -90,29 +90,41 @@ fn read_number(s: &[u8], at: usize) -> Line
 fn ends_line(s: &[u8], at: usize) -> bool
     ensures { λ r. ⌜ r ≡ endsLine (drop at (now (s .entry))) ⌝ }
 {
-    if s.len() <= at {
+    if s.len() < 2 {
+        return false;
+    }
+    if s.len() - 2 < at {
         return false;
     }
     if s[at] != 13 {
         return false;
     }
-    let after = at + 1;
-    if s.len() <= after {
-        return false;
-    }
-    s[after] == 10
+    s[at + 1] == 10
 }
 
-// The line with mark `mark` at place `at`: its number, up to 512, and the place after it.
-pub fn read_line(s: &[u8], at: usize, mark: u8) -> Line
-    ensures { λ r. ⌜ r ≡ lineFrom mark (now (s .entry)) at ⌝ }
+// The line at place `at` with any mark, where the number has one digit: CR is its third byte.
+fn short_line(s: &[u8], at: usize) -> Line
+    requires { ⌜ (at + 4 ≤ length (now s)) × (getD (now s) (at + 2) 0 ≡ 13) ⌝ }
+    ensures { λ r. ⌜ r ≡ lineFrom (getD (now (s .entry)) at 0) (now (s .entry)) at ⌝ }
 {
-    if s.len() <= at {
+    let value = digit_at(s, at + 1);
+    if 9 < value {
         return Line::Malformed;
     }
-    if s[at] != mark {
+    if s[at + 3] != 10 {
         return Line::Malformed;
     }
+    Line::Number {
+        value,
+        next: at + 4,
+    }
+}
+
+// The line at place `at` with any mark.
+fn long_line(s: &[u8], at: usize) -> Line
+    requires { ⌜ at + 4 ≤ length (now s) ⌝ }
+    ensures { λ r. ⌜ r ≡ lineFrom (getD (now (s .entry)) at 0) (now (s .entry)) at ⌝ }
+{
     let Line::Number { value, next } = read_number(s, at + 1) else {
         return Line::Malformed;
     };
@@ -123,6 +135,25 @@ pub fn read_line(s: &[u8], at: usize, mark: u8) -> Line
         };
     }
     Line::Malformed
+}
+
+// The line with mark `mark` at place `at`: its number, up to 512, and the place after it. No line has fewer than 4 bytes.
+pub fn read_line(s: &[u8], at: usize, mark: u8) -> Line
+    ensures { λ r. ⌜ r ≡ lineFrom mark (now (s .entry)) at ⌝ }
+{
+    if s.len() < 4 {
+        return Line::Malformed;
+    }
+    if s.len() - 4 < at {
+        return Line::Malformed;
+    }
+    if s[at] != mark {
+        return Line::Malformed;
+    }
+    if s[at + 2] == 13 {
+        return short_line(s, at);
+    }
+    long_line(s, at)
 }
 
 // The bulk string at place `at`: where its bytes begin and end, and the place after it.

@@ -1,88 +1,67 @@
--- `resp::read_line` meets its contract: the mark, the number and the line's end are tested in the model's order.
-use Prim.Native.Nat.{_+_}
+-- `resp::read_line` meets its contract: four bytes must be left, and the mark be the first.
+use Prim.Native.Nat.{ℕ}
 use native.Mathlib.Omega.{arith}
-use mathlib.Core.Path.{_≡_, sym, _∙_}
-use mathlib.Core.Option.{some}
-use lib.ListN.{drop}
+use mathlib.Core.Path.{sym, ap, _∙_}
 use borrow.Author.Needs.{needs}
-use Rattle.model.specs.Resp.{skip}
-use Rattle.resp.specs.Words.{numberFrom}
-use Rattle.resp.specs.declared.Line.the-variants.{Number}
-use Rattle.resp.proofs.Places.{skip-past, skip-other, skip-same, LineEnd, ends-line}
-use Rattle.resp.proofs.Lines.{line-unmarked, line-over, line-cut, line-whole}
+use Rattle.resp.specs.Words.{lineFrom}
+use Rattle.resp.proofs.Places.{skip-other}
+use Rattle.resp.proofs.Lines.{line-short, line-unmarked}
 use Rattle.resp.proofs.read_line.Statement.{statement}
 use Rattle.resp.proofs.read_line.Tie as tie
 
--- the mark stands at the place
-marked : (c : tie.Else2) → let a = c .before .before .before .before .args in
-    skip (a .mark) (drop (a .at) (a .s .now)) ≡ some (drop (a .at + 1) (a .s .now))
-marked c = skip-same _ _ _ (c .before .before .if1 .left) (c .if2 .left)
-
--- the number after it
-number : (c : tie.After-value) → let a = c .before .before .before .before .before .before .before .args in
-    numberFrom (drop (a .at + 1) (a .s .now)) (a .at + 1) ≡ Number (c .value .given .0 .0) (c .value .given .0 .1 .0)
-number c = sym (c .before .before .read-number .ensures) ∙ c .value .given .1
-
--- the line's end after that
-ended : (c : tie.Then3) → let v = c .before .before .before in
-    LineEnd (v .before .before .before .before .before .before .before .args .s .now) (v .value .given .0 .1 .0)
-ended c = ends-line _ _ (sym (c .before .ends-line .ensures) ∙ c .if3 .taken)
-
 returns : tie.Need-returns
-returns c = sym (line-unmarked _ _ _ (skip-past _ _ _ (c .if1 .taken)))
+returns c = let a = c .before .before .args in sym (line-short (a .mark) (a .s .now) (a .at) (omega arith))
 
-shared-slice-read-if2 : tie.Need-shared-slice-read-if2
-shared-slice-read-if2 c = search needs
+sub-if2 : tie.Need-sub-if2
+sub-if2 c = search needs
 
 returns-2 : tie.Need-returns-2
-returns-2 c = sym (line-unmarked _ _ _ (skip-other _ _ _ (c .before .before .if1 .left) (c .if2 .taken)))
+returns-2 c = let a = c .before .before .before .args in sym (line-short (a .mark) (a .s .now) (a .at) (omega arith))
 
-add-read-number : tie.Need-add-read-number
-add-read-number c = search needs
-
-read-number-requires : tie.Need-read-number-requires
-read-number-requires c κs = search needs
-
-enum-known-value : tie.Need-enum-known-value
-enum-known-value c = search needs
-
-enum-told : tie.Need-enum-told
-enum-told c = search needs
+shared-slice-read-if3 : tie.Need-shared-slice-read-if3
+shared-slice-read-if3 c = search needs
 
 returns-3 : tie.Need-returns-3
 returns-3 c =
-    let n = c .before .before in
-    sym (line-over _ _ _ (marked (n .before)) (sym (n .read-number .ensures) ∙ c .enum-told .given .1))
+    let a = c .before .before .before .before .before .args in
+    sym (line-unmarked _ _ _ (skip-other (a .s .now) (a .at) (a .mark) (omega arith) (c .if3 .taken)))
 
-ends-line-requires : tie.Need-ends-line-requires
-ends-line-requires c κs = search needs
+add-if4 : tie.Need-add-if4
+add-if4 c = search needs
 
-add-t12 : tie.Need-add-t12
-add-t12 c = omega (arith, ended c .within, c .before .before .before .before .before .before .before .before .before .before .good)
+shared-slice-read-if4 : tie.Need-shared-slice-read-if4
+shared-slice-read-if4 c = search needs
+
+short-line-requires : tie.Need-short-line-requires
+short-line-requires c κs = search needs
 
 returns-4 : tie.Need-returns-4
 returns-4 c =
-    let v = c .before .before .before in
-    sym (line-whole _ _ _ (marked (v .before .before .before)) _ _ (number v) (sym (c .before .ends-line .ensures) ∙ c .if3 .taken))
+    let m = c .before .before .before in
+    let a = m .before .before .before .before .before .args in
+    c .short-line .ensures ∙ ap (λ (x : ℕ). lineFrom x (a .s .now) (a .at)) (m .if3 .left)
+
+long-line-requires : tie.Need-long-line-requires
+long-line-requires c κs = search needs
 
 returns-5 : tie.Need-returns-5
 returns-5 c =
-    let v = c .before .before .before in
-    sym (line-cut _ _ _ (marked (v .before .before .before)) _ _ (number v) (sym (c .before .ends-line .ensures) ∙ c .if3 .left))
+    let m = c .before .before .before in
+    let a = m .before .before .before .before .before .args in
+    c .long-line .ensures ∙ ap (λ (x : ℕ). lineFrom x (a .s .now) (a .at)) (m .if3 .left)
 
 pub read-line-spec : {M : Type 1} → statement M
 read-line-spec =
     tie.close
     (tie.spec
     returns
-    shared-slice-read-if2
+    sub-if2
     returns-2
-    add-read-number
-    read-number-requires
-    enum-known-value
-    enum-told
+    shared-slice-read-if3
     returns-3
-    ends-line-requires
-    add-t12
+    add-if4
+    shared-slice-read-if4
+    short-line-requires
     returns-4
+    long-line-requires
     returns-5)

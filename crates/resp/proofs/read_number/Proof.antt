@@ -1,109 +1,140 @@
--- `resp::read_number` meets its contract: its digits are the number's unless there are none, or a 0 before others.
-use Prim.Native.Nat.{ℕ, _+_, _-_, _≤_, _<_}
+-- `resp::read_number` meets its contract: it tests digit after digit, and no number of four digits is up to 512.
+use Prim.Native.Nat.{ℕ, _+_, _*_, _≤_, _<_}
 use native.Mathlib.Omega.{arith}
-use native.Mathlib.Nat.{pos-of-ne-zero}
 use mathlib.Core.Path.{_≡_, sym, _∙_}
 use mathlib.Core.List.{List}
-use lib.ListN.{length, drop, getD, length-drop}
+use lib.ListN.{drop}
 use borrow.Author.Needs.{needs}
-use Rattle.model.specs.Number.{readDigits}
-use Rattle.model.specs.Resp.{leadingDigits}
-use Rattle.resp.specs.Words.{digitsFrom, numberFrom}
+use Rattle.resp.specs.Words.{digitAt, numberFrom}
 use Rattle.resp.specs.declared.Line.the-variants.{Number, Malformed}
-use Rattle.resp.proofs.Places.{first-at}
-use Rattle.resp.proofs.Digits.{Limited, limited-number, leading-short, leading-first, plain-none, plain-zeros, plain-one, plain-other}
-use Rattle.resp.proofs.Digits.{number-plain, number-zeros, number-over}
+use Rattle.resp.proofs.Digits.{digitsFrom, digits-more, digits-end, digits-over, number-none, number-one, number-zero, number-more}
 use Rattle.resp.proofs.read_number.Statement.{statement}
 use Rattle.resp.proofs.read_number.Tie as tie
 
-abbrev digits : List ℕ → ℕ → List ℕ
-digits s at = leadingDigits (drop at s)
+-- the digits d e f g, of which the first is not 0
+module _ (s : List ℕ) (at : ℕ) {d e f : ℕ} (first : d ≡ digitAt s at) (second : e ≡ digitAt s (at + 1)) (third : f ≡ digitAt s (at + 1 + 1)) where
+  module _ (d-is : d ≤ 9) (e-is : e ≤ 9) (more : 0 < d) where
+    two : numberFrom (drop at s) at ≡ digitsFrom (10 * d + e) (drop (at + 1 + 1) s) (at + 1 + 1)
+    two = number-more s at first d-is more ∙ digits-more s (at + 1) second d e-is
 
-module _ (s : List ℕ) (at v n : ℕ) (e : digitsFrom 0 (drop at s) at ≡ Number v n) where
-  got : Limited (at + length (digits s at)) (readDigits 0 (digits s at)) v n
-  unfolding digitsFrom
-  got = limited-number (at + length (digits s at)) (readDigits 0 (digits s at)) e
+    ends-two : 9 < f → Number (10 * d + e) (at + 1 + 1) ≡ numberFrom (drop at s) at
+    ends-two h = sym (two ∙ digits-end s (at + 1 + 1) third (10 * d + e) h (omega arith))
 
-  count : length (digits s at) ≡ n - at
-  count = omega (arith, got .place)
+    module _ (f-is : f ≤ 9) {g : ℕ} (fourth : g ≡ digitAt s (at + 1 + 1 + 1)) where
+      three : numberFrom (drop at s) at ≡ digitsFrom (10 * (10 * d + e) + f) (drop (at + 1 + 1 + 1) s) (at + 1 + 1 + 1)
+      three = two ∙ digits-more s (at + 1 + 1) third (10 * d + e) f-is
 
-  ordered : at ≤ n
-  ordered = omega (arith, got .place)
+      four : g < 10 → Malformed ≡ numberFrom (drop at s) at
+      four h =
+          sym (three ∙ digits-more s (at + 1 + 1 + 1) fourth (10 * (10 * d + e) + f) (omega arith) ∙ digits-over _ _ _ (omega arith))
 
-  empty : n - at ≡ 0 → Malformed ≡ numberFrom (drop at s) at
-  empty h = sym (number-zeros (drop at s) at (plain-none (digits s at) (count ∙ h)))
+      large : 512 < 10 * (10 * d + e) + f → Malformed ≡ numberFrom (drop at s) at
+      large h = sym (three ∙ digits-over _ _ _ h)
 
-  module _ (some : n - at ≡ 0 → ⊥) where
-    more : 0 < length (digits s at)
-    more = rw count (pos-of-ne-zero some)
+      ends-three : 10 ≤ g → 10 * (10 * d + e) + f ≤ 512 → Number (10 * (10 * d + e) + f) (at + 1 + 1 + 1) ≡ numberFrom (drop at s) at
+      ends-three h small = sym (three ∙ digits-end s (at + 1 + 1 + 1) fourth _ (omega arith) small)
 
-    inside : at < length s
-    inside = omega (arith, more, leading-short (drop at s), length-drop at s)
-
-    first : getD (digits s at) 0 0 ≡ getD s at 0
-    first = leading-first (drop at s) more ∙ first-at s at
-
-    zeros : getD s at 0 ≡ 48 → 1 < n - at → Malformed ≡ numberFrom (drop at s) at
-    zeros z h = sym (number-zeros (drop at s) at (plain-zeros (digits s at) (first ∙ z) (omega (arith, count))))
-
-    single : n - at ≤ 1 → Number v n ≡ numberFrom (drop at s) at
-    single h = sym (number-plain (drop at s) at (plain-one (digits s at) (omega (arith, more, count))) ∙ e)
-
-    other : (getD s at 0 ≡ 48 → ⊥) → Number v n ≡ numberFrom (drop at s) at
-    other z = sym (number-plain (drop at s) at (plain-other (digits s at) more (λ q. z (sym first ∙ q))) ∙ e)
-
--- the digits at the place
-told : (c : tie.After-value) → let a = c .before .before .before .before .args in
-    digitsFrom 0 (drop (a .at) (a .s .now)) (a .at) ≡ Number (c .value .given .0 .0) (c .value .given .0 .1 .0)
-told c = sym (c .before .before .read-digits .ensures) ∙ c .value .given .1
-
-read-digits-requires : tie.Need-read-digits-requires
-read-digits-requires c κs = search needs
-
-enum-known-value : tie.Need-enum-known-value
-enum-known-value c = search needs
-
-enum-told : tie.Need-enum-told
-enum-told c = search needs
+digit-at-requires : tie.Need-digit-at-requires
+digit-at-requires c κs = search needs
 
 returns : tie.Need-returns
-returns c = sym (number-over _ _ (sym (c .before .before .read-digits .ensures) ∙ c .enum-told .given .1))
+returns c = sym (number-none _ _ (c .before .digit-at .ensures) (c .if1 .taken))
 
-sub-count : tie.Need-sub-count
-sub-count c = ordered _ _ _ _ (told (c .before))
+add-next : tie.Need-add-next
+add-next c = search needs
+
+digit-at-requires-2 : tie.Need-digit-at-requires-2
+digit-at-requires-2 c κs = search needs
 
 returns-2 : tie.Need-returns-2
-returns-2 c = empty _ _ _ _ (told (c .before .before)) (c .if1 .taken)
-
-shared-slice-read-if2 : tie.Need-shared-slice-read-if2
-shared-slice-read-if2 c = inside _ _ _ _ (told (c .before .before .before)) (c .before .if1 .left)
+returns-2 c =
+    let a = c .before .before in
+    sym (number-one _ _ (a .before .digit-at .ensures) (a .if1 .left) (c .before .digit-at2 .ensures) (c .if2 .taken))
 
 returns-3 : tie.Need-returns-3
 returns-3 c =
-    let l = c .before .before .before in
-    zeros _ _ _ _ (told (l .before .before)) (l .if1 .left) (c .before .if2 .taken) (c .if3 .taken)
+    let b = c .before in
+    let a = b .before .before in
+    sym (number-zero _ _ (a .before .digit-at .ensures) (a .if1 .left) (b .before .digit-at2 .ensures) (b .if2 .left) (omega arith))
+
+mul-value : tie.Need-mul-value
+mul-value c = search needs
+
+add-value : tie.Need-add-value
+add-value c = search needs
+
+add-next-2 : tie.Need-add-next-2
+add-next-2 c = search needs
+
+digit-at-requires-3 : tie.Need-digit-at-requires-3
+digit-at-requires-3 c κs = search needs
 
 returns-4 : tie.Need-returns-4
 returns-4 c =
-    let l = c .before .before .before in
-    single _ _ _ _ (told (l .before .before)) (l .if1 .left) (c .if3 .left)
+    let n = c .before .before in
+    let b = n .before in
+    let a = b .before .before in
+    ends-two _ _ (a .before .digit-at .ensures) (b .before .digit-at2 .ensures) (c .before .digit-at3 .ensures)
+    (a .if1 .left) (b .if2 .left) (omega arith) (c .if4 .taken)
+
+mul-value-2 : tie.Need-mul-value-2
+mul-value-2 c = search needs
+
+add-value-2 : tie.Need-add-value-2
+add-value-2 c = search needs
+
+add-next-3 : tie.Need-add-next-3
+add-next-3 c = search needs
+
+digit-at-requires-4 : tie.Need-digit-at-requires-4
+digit-at-requires-4 c κs = search needs
 
 returns-5 : tie.Need-returns-5
 returns-5 c =
-    let l = c .before .before in
-    other _ _ _ _ (told (l .before .before)) (l .if1 .left) (c .if2 .left)
+    let t = c .before .before in
+    let n = t .before .before in
+    let b = n .before in
+    let a = b .before .before in
+    four _ _ (a .before .digit-at .ensures) (b .before .digit-at2 .ensures) (t .before .digit-at3 .ensures)
+    (a .if1 .left) (b .if2 .left) (omega arith) (t .if4 .left) (c .before .digit-at4 .ensures) (c .if5 .taken)
+
+returns-6 : tie.Need-returns-6
+returns-6 c =
+    let t = c .before .before .before in
+    let n = t .before .before in
+    let b = n .before in
+    let a = b .before .before in
+    large _ _ (a .before .digit-at .ensures) (b .before .digit-at2 .ensures) (t .before .digit-at3 .ensures)
+    (a .if1 .left) (b .if2 .left) (omega arith) (t .if4 .left) (c .before .before .digit-at4 .ensures) (c .if6 .taken)
+
+returns-7 : tie.Need-returns-7
+returns-7 c =
+    let t = c .before .before .before in
+    let n = t .before .before in
+    let b = n .before in
+    let a = b .before .before in
+    ends-three _ _ (a .before .digit-at .ensures) (b .before .digit-at2 .ensures) (t .before .digit-at3 .ensures)
+    (a .if1 .left) (b .if2 .left) (omega arith) (t .if4 .left) (c .before .before .digit-at4 .ensures) (c .before .if5 .left) (c .if6 .left)
 
 pub read-number-spec : {M : Type 1} → statement M
 read-number-spec =
     tie.close
     (tie.spec
-    read-digits-requires
-    enum-known-value
-    enum-told
+    digit-at-requires
     returns
-    sub-count
+    add-next
+    digit-at-requires-2
     returns-2
-    shared-slice-read-if2
     returns-3
+    mul-value
+    add-value
+    add-next-2
+    digit-at-requires-3
     returns-4
-    returns-5)
+    mul-value-2
+    add-value-2
+    add-next-3
+    digit-at-requires-4
+    returns-5
+    returns-6
+    returns-7)
