@@ -72,27 +72,23 @@ pub fn place_of(w: &[u8], keywords: &[u8]) -> usize
 const NAMES: [u8; 71] =
     *b"\x05EXSET\x05EXGET\x08EXSETVER\x08EXINCRBY\x05EXCAS\x05EXCAD\x08EXAPPEND\x09EXPREPEND\x05EXGAE\x03DEL";
 
-// What a word spells by its place among the names; the last entry is for every other word.
-const NAMED: [Named; 11] = [
-    Named::Known(Name::Exset),
-    Named::Known(Name::Exget),
-    Named::Known(Name::Exsetver),
-    Named::Known(Name::Exincrby),
-    Named::Known(Name::Excas),
-    Named::Known(Name::Excad),
-    Named::Known(Name::Exappend),
-    Named::Known(Name::Exprepend),
-    Named::Known(Name::Exgae),
-    Named::Known(Name::Del),
-    Named::Unknown,
-];
-
 // The command name that a word spells, in any case of its letters.
 pub fn name_of(w: &[u8]) -> Named
     ensures { λ r. ⌜ r ≡ namedFrom (look (uppers (now (w .entry))) names) ⌝ }
 {
-    let place = place_of(w, &NAMES);
-    NAMED[place]
+    match place_of(w, &NAMES) {
+        0 => Named::Known(Name::Exset),
+        1 => Named::Known(Name::Exget),
+        2 => Named::Known(Name::Exsetver),
+        3 => Named::Known(Name::Exincrby),
+        4 => Named::Known(Name::Excas),
+        5 => Named::Known(Name::Excad),
+        6 => Named::Known(Name::Exappend),
+        7 => Named::Known(Name::Exprepend),
+        8 => Named::Known(Name::Exgae),
+        9 => Named::Known(Name::Del),
+        _ => Named::Unknown,
+    }
 }
 
 // The options in their order, each behind its length.
@@ -104,42 +100,38 @@ const SECOND: u16 = 1000;
 
 const MILLISECOND: u16 = 1;
 
-// What a word spells by its place among the options; the last entry is for every other word.
-const SPELLED: [Spelled; 16] = [
-    Spelled::Known(Opt::Time {
-        unit: SECOND,
-        from_now: true,
-    }),
-    Spelled::Known(Opt::Time {
-        unit: MILLISECOND,
-        from_now: true,
-    }),
-    Spelled::Known(Opt::Time {
-        unit: SECOND,
-        from_now: false,
-    }),
-    Spelled::Known(Opt::Time {
-        unit: MILLISECOND,
-        from_now: false,
-    }),
-    Spelled::Known(Opt::Plain(Plain::Keepttl)),
-    Spelled::Known(Opt::Presence(Presence::IfAbsent)),
-    Spelled::Known(Opt::Presence(Presence::IfLive)),
-    Spelled::Known(Opt::Version { absolute: false }),
-    Spelled::Known(Opt::Version { absolute: true }),
-    Spelled::Known(Opt::Plain(Plain::Flags)),
-    Spelled::Known(Opt::Plain(Plain::Min)),
-    Spelled::Known(Opt::Plain(Plain::Max)),
-    Spelled::Known(Opt::Plain(Plain::Nonnegative)),
-    Spelled::Known(Opt::Plain(Plain::Withversion)),
-    Spelled::Known(Opt::Plain(Plain::Withflags)),
-    Spelled::Unknown,
-];
-
 // The option that a word spells, in any case of its letters.
 pub fn option_of(w: &[u8]) -> Spelled
     ensures { λ r. ⌜ r ≡ spelledFrom (look (uppers (now (w .entry))) options) ⌝ }
 {
-    let place = place_of(w, &OPTIONS);
-    SPELLED[place]
+    match place_of(w, &OPTIONS) {
+        0 => Spelled::Known(Opt::Time {
+            unit: SECOND,
+            from_now: true,
+        }),
+        1 => Spelled::Known(Opt::Time {
+            unit: MILLISECOND,
+            from_now: true,
+        }),
+        2 => Spelled::Known(Opt::Time {
+            unit: SECOND,
+            from_now: false,
+        }),
+        3 => Spelled::Known(Opt::Time {
+            unit: MILLISECOND,
+            from_now: false,
+        }),
+        4 => Spelled::Known(Opt::Plain(Plain::Keepttl)),
+        5 => Spelled::Known(Opt::Presence(Presence::IfAbsent)),
+        6 => Spelled::Known(Opt::Presence(Presence::IfLive)),
+        7 => Spelled::Known(Opt::Version { absolute: false }),
+        8 => Spelled::Known(Opt::Version { absolute: true }),
+        9 => Spelled::Known(Opt::Plain(Plain::Flags)),
+        10 => Spelled::Known(Opt::Plain(Plain::Min)),
+        11 => Spelled::Known(Opt::Plain(Plain::Max)),
+        12 => Spelled::Known(Opt::Plain(Plain::Nonnegative)),
+        13 => Spelled::Known(Opt::Plain(Plain::Withversion)),
+        14 => Spelled::Known(Opt::Plain(Plain::Withflags)),
+        _ => Spelled::Unknown,
+    }
 }
