@@ -96,15 +96,3 @@ module _ {A B : Type 0} (f : Option A → B) where
 
     pub value-at-place : (other : B) → getD (values t) p other ≡ f (look w t)
     value-at-place other = rw e (value-at t w other)
-
--- p is none of the numbers below n
-abbrev pub NoneBelow : (n p : ℕ) → Type 0
-NoneBelow zero p = Unit
-NoneBelow (suc n) p = NoneBelow n p × (p ≡ n → ⊥)
-
-pub past : (n : ℕ) {p : ℕ} → NoneBelow n p → n ≤ p
-past zero h = omega arith
-past (suc n) {p} h =
-    let k : n ≤ p = past n (h .0) in
-    let e : p ≡ n → ⊥ = h .1 in
-    omega arith

@@ -11,6 +11,7 @@ ghost use lib.Dec.{eqb};
 ghost use Rattle.model.specs.Bytes.{same, upper, uppers};
 ghost use Rattle.model.specs.Command.{look, names, options};
 ghost use Rattle.command.specs.Words.{namedFrom, spelledFrom};
+ghost use Rattle.keyword.specs.Code.{letterNo, codeOf};
 ghost use Rattle.keyword.specs.WordList.{wordsAfter, wholeAfter, placeIn};
 
 // An ASCII letter in upper case; any other byte as it is.
@@ -68,32 +69,53 @@ pub fn place_of(w: &[u8], keywords: &[u8]) -> usize
     place
 }
 
-// The command names in their order, each behind its length.
-const NAMES: [u8; 71] =
-    *b"\x05EXSET\x05EXGET\x08EXSETVER\x08EXINCRBY\x05EXCAS\x05EXCAD\x08EXAPPEND\x09EXPREPEND\x05EXGAE\x03DEL";
+// The number of a letter: A is 1, Z is 26. 27 for any other byte. A capital letter is the small one without the bit 32.
+fn letter(c: u8) -> u64
+    ensures { λ r. ⌜ r ≡ letterNo (upper c) ⌝ }
+{
+    let u = c & 223;
+    if b'A' <= u && u <= b'Z' {
+        u as u64 - 64
+    } else {
+        27
+    }
+}
+
+// A word as one number, in any case of its letters: they are the digits to base 32, the first one lowest. 0 for more than 12 letters.
+fn code_of(w: &[u8]) -> u64
+    ensures { λ r. ⌜ r ≡ codeOf (uppers (now (w .entry))) ⌝ }
+{
+    if 12 < w.len() {
+        return 0;
+    }
+    let mut code = 0;
+    let mut i = w.len();
+    while 0 < i {
+        i -= 1;
+        code = code * 32 + letter(w[i]);
+    }
+    code
+}
 
 // The command name that a word spells, in any case of its letters.
 pub fn name_of(w: &[u8]) -> Named
     ensures { λ r. ⌜ r ≡ namedFrom (look (uppers (now (w .entry))) names) ⌝ }
 {
-    match place_of(w, &NAMES) {
-        0 => Named::Known(Name::Exset),
-        1 => Named::Known(Name::Exget),
-        2 => Named::Known(Name::Exsetver),
-        3 => Named::Known(Name::Exincrby),
-        4 => Named::Known(Name::Excas),
-        5 => Named::Known(Name::Excad),
-        6 => Named::Known(Name::Exappend),
-        7 => Named::Known(Name::Exprepend),
-        8 => Named::Known(Name::Exgae),
-        9 => Named::Known(Name::Del),
+    // The numbers of EXSET, EXGET, EXSETVER, EXINCRBY, EXCAS, EXCAD, EXAPPEND, EXPREPEND, EXGAE and DEL.
+    match code_of(w) {
+        21155589 => Named::Known(Name::Exset),
+        21143301 => Named::Known(Name::Exget),
+        624603352837 => Named::Known(Name::Exsetver),
+        861748537093 => Named::Known(Name::Exincrby),
+        19959557 => Named::Known(Name::Excas),
+        4230917 => Named::Known(Name::Excad),
+        152656414469 => Named::Known(Name::Exappend),
+        4884994278149 => Named::Known(Name::Exprepend),
+        5283589 => Named::Known(Name::Exgae),
+        12452 => Named::Known(Name::Del),
         _ => Named::Unknown,
     }
 }
-
-// The options in their order, each behind its length.
-const OPTIONS: [u8; 85] =
-    *b"\x02EX\x02PX\x04EXAT\x04PXAT\x07KEEPTTL\x02NX\x02XX\x03VER\x03ABS\x05FLAGS\x03MIN\x03MAX\x0aNONEGATIVE\x0bWITHVERSION\x09WITHFLAGS";
 
 // The units of the time words, in milliseconds.
 const SECOND: u16 = 1000;
@@ -104,34 +126,35 @@ const MILLISECOND: u16 = 1;
 pub fn option_of(w: &[u8]) -> Spelled
     ensures { λ r. ⌜ r ≡ spelledFrom (look (uppers (now (w .entry))) options) ⌝ }
 {
-    match place_of(w, &OPTIONS) {
-        0 => Spelled::Known(Opt::Time {
+    // The numbers of EX, PX, EXAT, PXAT, KEEPTTL, NX, XX, VER, ABS, FLAGS, MIN, MAX, NONEGATIVE, WITHVERSION and WITHFLAGS.
+    match code_of(w) {
+        773 => Spelled::Known(Opt::Time {
             unit: SECOND,
             from_now: true,
         }),
-        1 => Spelled::Known(Opt::Time {
+        784 => Spelled::Known(Opt::Time {
             unit: MILLISECOND,
             from_now: true,
         }),
-        2 => Spelled::Known(Opt::Time {
+        657157 => Spelled::Known(Opt::Time {
             unit: SECOND,
             from_now: false,
         }),
-        3 => Spelled::Known(Opt::Time {
+        657168 => Spelled::Known(Opt::Time {
             unit: MILLISECOND,
             from_now: false,
         }),
-        4 => Spelled::Known(Opt::Plain(Plain::Keepttl)),
-        5 => Spelled::Known(Opt::Presence(Presence::IfAbsent)),
-        6 => Spelled::Known(Opt::Presence(Presence::IfLive)),
-        7 => Spelled::Known(Opt::Version { absolute: false }),
-        8 => Spelled::Known(Opt::Version { absolute: true }),
-        9 => Spelled::Known(Opt::Plain(Plain::Flags)),
-        10 => Spelled::Known(Opt::Plain(Plain::Min)),
-        11 => Spelled::Known(Opt::Plain(Plain::Max)),
-        12 => Spelled::Known(Opt::Plain(Plain::Nonnegative)),
-        13 => Spelled::Known(Opt::Plain(Plain::Withversion)),
-        14 => Spelled::Known(Opt::Plain(Plain::Withflags)),
+        13577491627 => Spelled::Known(Opt::Plain(Plain::Keepttl)),
+        782 => Spelled::Known(Opt::Presence(Presence::IfAbsent)),
+        792 => Spelled::Known(Opt::Presence(Presence::IfLive)),
+        18614 => Spelled::Known(Opt::Version { absolute: false }),
+        19521 => Spelled::Known(Opt::Version { absolute: true }),
+        20153734 => Spelled::Known(Opt::Plain(Plain::Flags)),
+        14637 => Spelled::Known(Opt::Plain(Plain::Min)),
+        24621 => Spelled::Known(Opt::Plain(Plain::Max)),
+        200441869810158 => Spelled::Known(Opt::Plain(Plain::Nonnegative)),
+        16300932235284791 => Spelled::Known(Opt::Plain(Plain::Withversion)),
+        21132722065719 => Spelled::Known(Opt::Plain(Plain::Withflags)),
         _ => Spelled::Unknown,
     }
 }
