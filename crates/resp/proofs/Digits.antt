@@ -13,10 +13,10 @@ use lib.Seq.{drop-cons, getD-drop}
 use borrow.Author.Tests.{le-leb, lt-leb, leb-true, leb-false, eqb-true, eq-eqb, ne-eqb}
 use Rattle.model.specs.Number.{isDigit, readDigits, readNat}
 use Rattle.model.specs.Resp.{leadingDigits, commandLimit}
-use Rattle.resp.specs.Words.{limited, digitAt, numberFrom}
+use Rattle.resp.specs.Words.{limited, digitAt, numberFrom, endsLine}
 use Rattle.resp.specs.declared.Line.{Line}
 use Rattle.resp.specs.declared.Line.the-variants.{Number, Malformed}
-use Rattle.resp.proofs.Places.{first-at}
+use Rattle.resp.proofs.Places.{first-at, ends-cr}
 
 -- ---- numbers up to 512
 
@@ -78,6 +78,11 @@ module _ (s : List ℕ) (at : ℕ) where
           let z : _≡_ {A = ℕ} 0 1 = cc in
           absurd (omega arith)
       go false t = leb-false (length s) at t
+
+  -- CR is no digit
+  pub digit-cr : endsLine (drop at s) ≡ true → 10 ≡ digitAt s at
+  unfolding digitAt
+  digit-cr t = rw (ends-cr s at t)
 
 -- ---- digits
 

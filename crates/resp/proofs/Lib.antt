@@ -3,6 +3,7 @@ pub mod Optional
 pub mod Places
 pub mod Digits
 pub mod Lines
+pub mod Starts
 pub mod Words
 pub mod Commands
 mod Held

@@ -1,11 +1,12 @@
 // The words of a command in RESP2, taken by a reader that holds the command and a place in it. Each function over a reader takes it apart and
 // calls one on slice and number; `read_word` and `ends_at` stand above them, so that no other function holds a reader.
 ghost use mathlib.Core.Path.{_≡_};
-ghost use Prim.Native.Nat.{_+_, _≤_};
+ghost use mathlib.Core.Bool.{false};
+ghost use Prim.Native.Nat.{_+_, _≤_, _<_};
 ghost use lib.ListN.{length, drop, getD};
 ghost use lib.Dec.{leb};
 ghost use Rattle.model.specs.Resp.{commandLimit, wordLimit, decode};
-ghost use Rattle.resp.specs.Words.{digitAt, numberFrom, endsLine, lineFrom, wordFrom, hasWords, countFrom, firstWord};
+ghost use Rattle.resp.specs.Words.{digitAt, endsLine, lineFrom, wordFrom, hasWords, countFrom, firstWord};
 
 // A line's number, and the place after the line.
 pub enum Line {
@@ -52,38 +53,19 @@ fn digit_at(s: &[u8], at: usize) -> usize
     (c - 48) as usize
 }
 
-// The number at place `at`, up to 512 and without extra zeros, and the place after it. Three digits are the most, so there is no loop.
-fn read_number(s: &[u8], at: usize) -> Line
-    requires { ⌜ at + 3 ≤ length (now s) ⌝ }
-    ensures { λ r. ⌜ r ≡ numberFrom (drop at (now (s .entry))) at ⌝ }
+// A byte as a wider number.
+fn wide(x: u8) -> u16
+    ensures { λ r. ⌜ (r ≡ x) × (r < 256) ⌝ }
 {
-    let value = digit_at(s, at);
-    if 9 < value {
-        return Line::Malformed;
-    }
-    let next = at + 1;
-    let digit = digit_at(s, next);
-    if 9 < digit {
-        return Line::Number { value, next };
-    }
-    if value == 0 {
-        return Line::Malformed;
-    }
-    let value = 10 * value + digit;
-    let next = next + 1;
-    let digit = digit_at(s, next);
-    if 9 < digit {
-        return Line::Number { value, next };
-    }
-    let value = 10 * value + digit;
-    let next = next + 1;
-    if digit_at(s, next) < 10 {
-        return Line::Malformed;
-    }
-    if 512 < value {
-        return Line::Malformed;
-    }
-    Line::Number { value, next }
+    x as u16
+}
+
+// Whether the two bytes at place `at` are CR LF. As one number they are loaded and compared at once.
+fn is_crlf(s: &[u8], at: usize) -> bool
+    requires { ⌜ at + 2 ≤ length (now s) ⌝ }
+    ensures { λ r. ⌜ r ≡ endsLine (drop at (now (s .entry))) ⌝ }
+{
+    wide(s[at]) + 256 * wide(s[at + 1]) == 2573
 }
 
 // Whether CR LF stands at place `at`.
@@ -96,38 +78,28 @@ fn ends_line(s: &[u8], at: usize) -> bool
     if s.len() - 2 < at {
         return false;
     }
-    if s[at] != 13 {
-        return false;
-    }
-    s[at + 1] == 10
+    is_crlf(s, at)
 }
 
-// The line at place `at` with any mark, where the number has one digit: CR is its third byte.
-fn short_line(s: &[u8], at: usize) -> Line
-    requires { ⌜ (at + 4 ≤ length (now s)) × (getD (now s) (at + 2) 0 ≡ 13) ⌝ }
+// The line at place `at` with any mark, whose number begins with the digit `first`, 1 to 9, and is longer. No number up to 512 has four digits.
+fn long_line(s: &[u8], at: usize, first: usize) -> Line
+    requires { ⌜ (at + 4 ≤ length (now s)) × (first ≡ digitAt (now s) (at + 1)) × (1 ≤ first) × (first ≤ 9) × (endsLine (drop (at + 2) (now s)) ≡ false) ⌝ }
     ensures { λ r. ⌜ r ≡ lineFrom (getD (now (s .entry)) at 0) (now (s .entry)) at ⌝ }
 {
-    let value = digit_at(s, at + 1);
-    if 9 < value {
+    let second = digit_at(s, at + 2);
+    if 9 < second {
         return Line::Malformed;
     }
-    if s[at + 3] != 10 {
-        return Line::Malformed;
+    let mut value = 10 * first + second;
+    let mut next = at + 3;
+    let third = digit_at(s, next);
+    if third < 10 {
+        value = 10 * value + third;
+        if 512 < value {
+            return Line::Malformed;
+        }
+        next += 1;
     }
-    Line::Number {
-        value,
-        next: at + 4,
-    }
-}
-
-// The line at place `at` with any mark.
-fn long_line(s: &[u8], at: usize) -> Line
-    requires { ⌜ at + 4 ≤ length (now s) ⌝ }
-    ensures { λ r. ⌜ r ≡ lineFrom (getD (now (s .entry)) at 0) (now (s .entry)) at ⌝ }
-{
-    let Line::Number { value, next } = read_number(s, at + 1) else {
-        return Line::Malformed;
-    };
     if ends_line(s, next) {
         return Line::Number {
             value,
@@ -150,10 +122,20 @@ pub fn read_line(s: &[u8], at: usize, mark: u8) -> Line
     if s[at] != mark {
         return Line::Malformed;
     }
-    if s[at + 2] == 13 {
-        return short_line(s, at);
+    let first = digit_at(s, at + 1);
+    if 9 < first {
+        return Line::Malformed;
     }
-    long_line(s, at)
+    if is_crlf(s, at + 2) {
+        return Line::Number {
+            value: first,
+            next: at + 4,
+        };
+    }
+    if first == 0 {
+        return Line::Malformed;
+    }
+    long_line(s, at, first)
 }
 
 // The bulk string at place `at`: where its bytes begin and end, and the place after it.
