@@ -1,12 +1,12 @@
 -- What the reader of a command answers, by the model's definitions: it gives places in the bytes s where the model gives the bytes left.
-use Prim.Native.Nat.{ℕ, _+_, _-_}
+use Prim.Native.Nat.{ℕ, _-_}
 use mathlib.Core.Bool.{Bool, true, false, cond}
 use mathlib.Core.List.{List}
 use mathlib.Core.Option.{Option, none, some}
 use lib.ListN.{length, drop, getD}
 use lib.Dec.{leb}
-use Rattle.model.specs.Number.{isDigit, readNat}
-use Rattle.model.specs.Resp.{commandLimit, arrayMark, line, Taken, leadingDigits, skipLineEnd, readLine, readBulk, readBulks}
+use Rattle.model.specs.Number.{isDigit}
+use Rattle.model.specs.Resp.{commandLimit, arrayMark, line, Taken, skipLineEnd, readLine, readBulk, readBulks}
 use Rattle.resp.specs.declared.Line.{Line}
 use Rattle.resp.specs.declared.Line.the-variants as Line
 use Rattle.resp.specs.declared.Word.{Word}
@@ -24,10 +24,6 @@ limited next (some n) = cond (leb n commandLimit) (Line.Number n next) Line.Malf
 -- the digit at a place, and 10 where there is none
 unfoldable pub digitAt : List ℕ → ℕ → ℕ
 digitAt s at = let c = getD s at 0 in cond (isDigit c) (c - 48) 10
-
--- the number at the front of s, in digits without extra zeros; s begins at place `at`
-unfoldable pub numberFrom : List ℕ → (at : ℕ) → Line
-numberFrom s at = limited (at + length (leadingDigits s)) (readNat (leadingDigits s))
 
 -- whether something was read
 abbrev pub present : {A : Type 0} → Option A → Bool
