@@ -1,6 +1,6 @@
--- Words as numbers: two words of letters with the same number are the same word.
+-- Words as numbers: two words of capital letters with the same number are the same word.
 use mathlib.Core.Path.{_≡_, refl, sym, ap, _∙_}
-use mathlib.Core.Bool.{Bool, true, false, cond, _&&_}
+use mathlib.Core.Bool.{Bool, true, false, cond, not, _&&_}
 use mathlib.Core.List.{List, [], _∷_}
 use mathlib.Core.Option.{Option, none}
 use Prim.Native.Nat.{ℕ, zero, suc, _+_, _-_, _*_, _^_, _≤_, _<_}
@@ -11,23 +11,30 @@ use lib.ListN.{length, drop, getD}
 use lib.Seq.{drop-cons}
 use lib.Dec.{leb, eqb}
 use lib.Bits.{bitAnd}
-use borrow.Author.Tests.{eqb-true, leb-true, le-leb, lt-leb}
+use borrow.Author.Tests.{eqb-true, leb-true, le-leb, lt-leb, not-true}
 use Rattle.model.specs.Bytes.{same, upper}
 use Rattle.model.specs.Command.{look}
 use Rattle.model.proofs.Basics.{never, and-left, and-right, ne-same}
-use Rattle.keyword.specs.Code.{letterNo, digits, codeOf}
+use Rattle.keyword.specs.Code.{capital, capitals, numberOf, codeOf}
+
+and-false : (b : Bool) → b && false ≡ false
+and-false true = refl
+and-false false = refl
 
 -- ---- a letter
 
 module _ (c : ℕ) where
-  pub letter-inside : 65 ≤ c → c ≤ 90 → letterNo c ≡ c - 64
-  letter-inside h k = rw (le-leb 65 c h, le-leb c 90 k)
+  pub capital-inside : 65 ≤ c → c ≤ 90 → capital c ≡ true
+  capital-inside h k = rw (le-leb 65 c h, le-leb c 90 k)
 
-  pub letter-below : c < 65 → letterNo c ≡ 27
-  letter-below h = rw (lt-leb 65 c h)
+  pub capital-below : c < 65 → capital c ≡ false
+  capital-below h = rw (lt-leb 65 c h)
 
-  pub letter-above : 65 ≤ c → 90 < c → letterNo c ≡ 27
-  letter-above h k = rw (le-leb 65 c h, lt-leb c 90 k)
+  pub capital-above : 90 < c → capital c ≡ false
+  capital-above h = ap (λ (b : Bool). leb 65 c && b) (lt-leb c 90 h) ∙ and-false (leb 65 c)
+
+  capital-range : capital c ≡ true → (65 ≤ c) × (c ≤ 90)
+  capital-range e = (leb-true _ _ (and-left (leb 65 c) (leb c 90) e), leb-true _ _ (and-right (leb 65 c) (leb c 90) e))
 
 -- a test passes at each number below n
 abbrev each : (ℕ → Bool) → ℕ → Bool
@@ -39,81 +46,91 @@ below f zero i e h = absurd (omega arith)
 below f (suc n) zero e h = and-left (f zero) (each (λ k. f (suc k)) n) e
 below f (suc n) (suc i) e h = below (λ k. f (suc k)) n i (and-right (f zero) (each (λ k. f (suc k)) n) e) (omega arith)
 
+-- a byte without the bit 32 is a capital letter where the byte is a letter, and then that letter
 abbrev folds : ℕ → Bool
-folds c = eqb (letterNo (bitAnd c 223)) (letterNo (upper c))
+folds c = cond (capital (bitAnd c 223)) (eqb (upper c) (bitAnd c 223)) (not (capital (upper c)))
 
--- a byte without the bit 32 has the number of its capital letter
-pub letter-folded : (c : ℕ) → c < 256 → letterNo (bitAnd c 223) ≡ letterNo (upper c)
-letter-folded c h = eqb-true _ _ (below folds 256 c refl h)
+module _ (c : ℕ) (h : c < 256) where
+  folds-as : {b : Bool} → capital (bitAnd c 223) ≡ b → cond b (eqb (upper c) (bitAnd c 223)) (not (capital (upper c))) ≡ true
+  folds-as e = ap (λ (b : Bool). cond b (eqb (upper c) (bitAnd c 223)) (not (capital (upper c)))) (sym e) ∙ below folds 256 c refl h
 
--- what a letter's number tells of it
-pub record Numbered (c n : ℕ) : Type 0 where
-  pub least : 1 ≤ n
-  pub most : n ≤ 27
-  pub back : n ≤ 26 → c ≡ n + 64
+  pub folded-letter : capital (bitAnd c 223) ≡ true → upper c ≡ bitAnd c 223
+  folded-letter e = eqb-true _ _ (folds-as e)
 
-pub numbered : (c : ℕ) → Numbered c (letterNo c)
-numbered c = go (leb 65 c) (leb c 90) refl refl
-  where
-    go : (a b : Bool) → leb 65 c ≡ a → leb c 90 ≡ b → Numbered c (cond (a && b) (c - 64) 27)
-    go true true p q = record { least = omega (arith, leb-true); most = omega (arith, leb-true); back = λ h. omega (arith, leb-true) }
-    go true false p q = record { least = omega arith; most = omega arith; back = λ h. omega arith }
-    go false b p q = record { least = omega arith; most = omega arith; back = λ h. omega arith }
+  pub folded-other : capital (bitAnd c 223) ≡ false → capital (upper c) ≡ false
+  folded-other e = not-true _ (folds-as e)
 
 -- ---- a word
 
-pub digits-at : (s : List ℕ) (j : ℕ) → j < length s → digits (drop j s) ≡ letterNo (getD s j 0) + 32 * digits (drop (j + 1) s)
-digits-at s j h = rw (drop-cons s j 0, add-one j)
+module _ (s : List ℕ) (j : ℕ) (h : j < length s) where
+  pub number-at : numberOf (drop j s) ≡ getD s j 0 + 32 * numberOf (drop (j + 1) s)
+  number-at = rw (drop-cons s j 0, add-one j)
 
-pub digits-below : (n : ℕ) (s : List ℕ) → length s ≤ n → digits s < 32 ^ n
-digits-below zero [] h = omega arith
-digits-below zero (c ∷ s) h = absurd (omega arith)
-digits-below (suc n) [] h = let k = digits-below n [] (omega arith) in omega (arith, pow-suc 32 n)
-digits-below (suc n) (c ∷ s) h =
-    let k = digits-below n s (omega arith) in
-    let l = numbered c in
+  pub capitals-at : capital (getD s j 0) ≡ true → capitals (drop (j + 1) s) ≡ true → capitals (drop j s) ≡ true
+  capitals-at k e =
+      let f : capitals (drop (suc j) s) ≡ true = rw add-one at e in
+      rw (drop-cons s j 0, k) f
+
+pub no-capitals : (s : List ℕ) (j : ℕ) → j < length s → capital (getD s j 0) ≡ false → capitals s ≡ false
+no-capitals [] j h e = absurd (omega arith)
+no-capitals (c ∷ s) zero h e = ap (λ (b : Bool). b && capitals s) e
+no-capitals (c ∷ s) (suc j) h e = ap (λ (b : Bool). capital c && b) (no-capitals s j (omega arith) e) ∙ and-false (capital c)
+
+pub number-below : (n : ℕ) (s : List ℕ) → length s ≤ n → capitals s ≡ true → numberOf s + 3 ≤ 3 * 32 ^ n
+number-below zero [] h e = omega arith
+number-below zero (c ∷ s) h e = absurd (omega arith)
+number-below (suc n) [] h e = omega (arith, pow-suc 32 n, number-below n [] (omega arith) refl)
+number-below (suc n) (c ∷ s) h e =
+    let k = number-below n s (omega arith) (and-right (capital c) (capitals s) e) in
+    let r = capital-range c (and-left (capital c) (capitals s) e) in
     omega (arith, pow-suc 32 n)
 
--- whether all bytes are capital letters
-abbrev letters : List ℕ → Bool
-letters [] = true
-letters (c ∷ s) = leb (letterNo c) 26 && letters s
-
-digits-same : (s v : List ℕ) → letters v ≡ true → digits s ≡ digits v → s ≡ v
-digits-same [] [] h e = refl
-digits-same [] (d ∷ v) h e = let l = numbered d in absurd (omega arith)
-digits-same (c ∷ s) [] h e = let l = numbered c in absurd (omega arith)
-digits-same (c ∷ s) (d ∷ v) h e =
-    let l = numbered c in
-    let m = numbered d in
-    let k : letterNo d ≤ 26 = leb-true _ _ (and-left (leb (letterNo d) 26) (letters v) h) in
-    let p : c ≡ d = omega (arith, l .back (omega arith), m .back k) in
-    let q : s ≡ v = digits-same s v (and-right (leb (letterNo d) 26) (letters v) h) (omega arith) in
+number-same : (s v : List ℕ) → capitals s ≡ true → capitals v ≡ true → numberOf s ≡ numberOf v → s ≡ v
+number-same [] [] g h e = refl
+number-same [] (d ∷ v) g h e = let r = capital-range d (and-left (capital d) (capitals v) h) in absurd (omega arith)
+number-same (c ∷ s) [] g h e = let r = capital-range c (and-left (capital c) (capitals s) g) in absurd (omega arith)
+number-same (c ∷ s) (d ∷ v) g h e =
+    let r = capital-range c (and-left (capital c) (capitals s) g) in
+    let t = capital-range d (and-left (capital d) (capitals v) h) in
+    let p : c ≡ d = omega arith in
+    let q : s ≡ v = number-same s v (and-right (capital c) (capitals s) g) (and-right (capital d) (capitals v) h) (omega arith) in
     λ i. p i ∷ q i
+
+-- the number by what the word is
+module _ (w : List ℕ) where
+  pub code-long : 12 < length w → codeOf w ≡ 0
+  code-long h = rw (lt-leb (length w) 12 h)
+
+  pub code-other : capitals w ≡ false → codeOf w ≡ 0
+  code-other e = ap (λ (b : Bool). cond (leb (length w) 12 && b) (numberOf w) 0) e ∙ ap (λ (b : Bool). cond b (numberOf w) 0) (and-false (leb (length w) 12))
+
+  pub code-short : length w ≤ 12 → capitals w ≡ true → codeOf w ≡ numberOf w
+  code-short h e = rw (le-leb (length w) 12 h, e)
+
+-- ---- a keyword
 
 -- whether a word is of 1 to 12 capital letters
 abbrev pub keyword : List ℕ → Bool
-keyword v = leb 1 (digits v) && (leb (length v) 12 && letters v)
+keyword v = leb 1 (numberOf v) && (leb (length v) 12 && capitals v)
 
 module _ (v : List ℕ) (h : keyword v ≡ true) where
-  some-digits : 1 ≤ digits v
-  some-digits = leb-true _ _ (and-left (leb 1 (digits v)) (leb (length v) 12 && letters v) h)
+  some-number : 1 ≤ numberOf v
+  some-number = leb-true _ _ (and-left (leb 1 (numberOf v)) (leb (length v) 12 && capitals v) h)
 
-  short-letters : leb (length v) 12 && letters v ≡ true
-  short-letters = and-right (leb 1 (digits v)) (leb (length v) 12 && letters v) h
+  short-capitals : leb (length v) 12 && capitals v ≡ true
+  short-capitals = and-right (leb 1 (numberOf v)) (leb (length v) 12 && capitals v) h
 
   -- a word with a keyword's number is the keyword
-  pub code-tells : (w : List ℕ) → codeOf w ≡ digits v → w ≡ v
-  code-tells w e = go (leb (length w) 12) e
+  pub code-tells : (w : List ℕ) → codeOf w ≡ numberOf v → w ≡ v
+  code-tells w e = go (leb (length w) 12 && capitals w) refl e
     where
-      go : (b : Bool) → cond b (digits w) 0 ≡ digits v → w ≡ v
-      go true e = digits-same w v (and-right (leb (length v) 12) (letters v) short-letters) e
-      go false e = let k = some-digits in absurd (omega arith)
+      go : (b : Bool) → leb (length w) 12 && capitals w ≡ b → cond b (numberOf w) 0 ≡ numberOf v → w ≡ v
+      go true g e = number-same w v (and-right (leb (length w) 12) (capitals w) g) (and-right (leb (length v) 12) (capitals v) short-capitals) e
+      go false g e = let k = some-number in absurd (omega arith)
 
   -- a word with another number is not
-  other-code : (w : List ℕ) → (codeOf w ≡ digits v → ⊥) → same w v ≡ false
-  other-code w n =
-      ne-same w v (λ e. n (ap codeOf e ∙ ap (λ (b : Bool). cond b (digits v) 0) (and-left (leb (length v) 12) (letters v) short-letters)))
+  other-code : (w : List ℕ) → (codeOf w ≡ numberOf v → ⊥) → same w v ≡ false
+  other-code w n = ne-same w v (λ e. n (ap codeOf e ∙ ap (λ (b : Bool). cond b (numberOf v) 0) short-capitals))
 
 -- ---- a table of words
 
@@ -126,13 +143,13 @@ module _ {A : Type 0} where
   -- R, and k is the number of no word of a table
   abbrev pub NoCode : (k : ℕ) → List (List ℕ × A) → (R : Type 0) → Type 0
   NoCode k [] R = R
-  NoCode k (e ∷ es) R = NoCode k es (R × (k ≡ digits (e .0) → ⊥))
+  NoCode k (e ∷ es) R = NoCode k es (R × (k ≡ numberOf (e .0) → ⊥))
 
   no-code : {k : ℕ} (w : List ℕ) → k ≡ codeOf w → (t : List (List ℕ × A)) → keywords t ≡ true → (R : Type 0) → NoCode k t R
       → R × (look w t ≡ none)
   no-code w e [] h R n = (n, refl)
   no-code {k} w e (x ∷ t) h R n =
-      let m = no-code w e t (and-right (keyword (x .0)) (keywords t) h) (R × (k ≡ digits (x .0) → ⊥)) n in
+      let m = no-code w e t (and-right (keyword (x .0)) (keywords t) h) (R × (k ≡ numberOf (x .0) → ⊥)) n in
       let d : same w (x .0) ≡ false = other-code (x .0) (and-left (keyword (x .0)) (keywords t) h) w (λ p. m .0 .1 (e ∙ p)) in
       (m .0 .0, rw d (m .1))
 

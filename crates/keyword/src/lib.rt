@@ -11,7 +11,7 @@ ghost use lib.Dec.{eqb};
 ghost use Rattle.model.specs.Bytes.{same, upper, uppers};
 ghost use Rattle.model.specs.Command.{look, names, options};
 ghost use Rattle.command.specs.Words.{namedFrom, spelledFrom};
-ghost use Rattle.keyword.specs.Code.{letterNo, codeOf};
+ghost use Rattle.keyword.specs.Code.{codeOf};
 ghost use Rattle.keyword.specs.WordList.{wordsAfter, wholeAfter, placeIn};
 
 // An ASCII letter in upper case; any other byte as it is.
@@ -69,19 +69,7 @@ pub fn place_of(w: &[u8], keywords: &[u8]) -> usize
     place
 }
 
-// The number of a letter: A is 1, Z is 26. 27 for any other byte. A capital letter is the small one without the bit 32.
-fn letter(c: u8) -> u64
-    ensures { λ r. ⌜ r ≡ letterNo (upper c) ⌝ }
-{
-    let u = c & 223;
-    if b'A' <= u && u <= b'Z' {
-        u as u64 - 64
-    } else {
-        27
-    }
-}
-
-// A word as one number, in any case of its letters: they are the digits to base 32, the first one lowest. 0 for more than 12 letters.
+// A word of at most 12 letters as one number, in any case of them: the first letter and 32 times the number of the others. 0 for any other word.
 fn code_of(w: &[u8]) -> u64
     ensures { λ r. ⌜ r ≡ codeOf (uppers (now (w .entry))) ⌝ }
 {
@@ -92,7 +80,12 @@ fn code_of(w: &[u8]) -> u64
     let mut i = w.len();
     while 0 < i {
         i -= 1;
-        code = code * 32 + letter(w[i]);
+        // Without the bit 32 a small letter is the capital one.
+        let u = w[i] & 223;
+        if u < b'A' || b'Z' < u {
+            return 0;
+        }
+        code = code * 32 + u as u64;
     }
     code
 }
@@ -103,16 +96,16 @@ pub fn name_of(w: &[u8]) -> Named
 {
     // The numbers of EXSET, EXGET, EXSETVER, EXINCRBY, EXCAS, EXCAD, EXAPPEND, EXPREPEND, EXGAE and DEL.
     match code_of(w) {
-        21155589 => Named::Known(Name::Exset),
-        21143301 => Named::Known(Name::Exget),
-        624603352837 => Named::Known(Name::Exsetver),
-        861748537093 => Named::Known(Name::Exincrby),
-        19959557 => Named::Known(Name::Excas),
-        4230917 => Named::Known(Name::Excad),
-        152656414469 => Named::Known(Name::Exappend),
-        4884994278149 => Named::Known(Name::Exprepend),
-        5283589 => Named::Known(Name::Exgae),
-        12452 => Named::Known(Name::Del),
+        90429253 => Named::Known(Name::Exset),
+        90416965 => Named::Known(Name::Exget),
+        2894562842437 => Named::Known(Name::Exsetver),
+        3131708026693 => Named::Known(Name::Exincrby),
+        89233221 => Named::Known(Name::Excas),
+        73504581 => Named::Known(Name::Excad),
+        2422615904069 => Named::Known(Name::Exappend),
+        77523697945413 => Named::Known(Name::Exprepend),
+        74557253 => Named::Known(Name::Exgae),
+        80100 => Named::Known(Name::Del),
         _ => Named::Unknown,
     }
 }
@@ -128,33 +121,33 @@ pub fn option_of(w: &[u8]) -> Spelled
 {
     // The numbers of EX, PX, EXAT, PXAT, KEEPTTL, NX, XX, VER, ABS, FLAGS, MIN, MAX, NONEGATIVE, WITHVERSION and WITHFLAGS.
     match code_of(w) {
-        773 => Spelled::Known(Opt::Time {
+        2885 => Spelled::Known(Opt::Time {
             unit: SECOND,
             from_now: true,
         }),
-        784 => Spelled::Known(Opt::Time {
+        2896 => Spelled::Known(Opt::Time {
             unit: MILLISECOND,
             from_now: true,
         }),
-        657157 => Spelled::Known(Opt::Time {
+        2821957 => Spelled::Known(Opt::Time {
             unit: SECOND,
             from_now: false,
         }),
-        657168 => Spelled::Known(Opt::Time {
+        2821968 => Spelled::Known(Opt::Time {
             unit: MILLISECOND,
             from_now: false,
         }),
-        13577491627 => Spelled::Known(Opt::Plain(Plain::Keepttl)),
-        782 => Spelled::Known(Opt::Presence(Presence::IfAbsent)),
-        792 => Spelled::Known(Opt::Presence(Presence::IfLive)),
-        18614 => Spelled::Known(Opt::Version { absolute: false }),
-        19521 => Spelled::Known(Opt::Version { absolute: true }),
-        20153734 => Spelled::Known(Opt::Plain(Plain::Flags)),
-        14637 => Spelled::Known(Opt::Plain(Plain::Min)),
-        24621 => Spelled::Known(Opt::Plain(Plain::Max)),
-        200441869810158 => Spelled::Known(Opt::Plain(Plain::Nonnegative)),
-        16300932235284791 => Spelled::Known(Opt::Plain(Plain::Withversion)),
-        21132722065719 => Spelled::Known(Opt::Plain(Plain::Withflags)),
+        84513725675 => Spelled::Known(Opt::Plain(Plain::Keepttl)),
+        2894 => Spelled::Known(Opt::Presence(Presence::IfAbsent)),
+        2904 => Spelled::Known(Opt::Presence(Presence::IfLive)),
+        86262 => Spelled::Known(Opt::Version { absolute: false }),
+        87169 => Spelled::Known(Opt::Version { absolute: true }),
+        89427398 => Spelled::Known(Opt::Plain(Plain::Flags)),
+        82285 => Spelled::Known(Opt::Plain(Plain::Min)),
+        92269 => Spelled::Known(Opt::Plain(Plain::Max)),
+        2524880387162670 => Spelled::Known(Opt::Plain(Plain::Nonnegative)),
+        90682964790565239 => Spelled::Known(Opt::Plain(Plain::Withversion)),
+        93771425732983 => Spelled::Known(Opt::Plain(Plain::Withflags)),
         _ => Spelled::Unknown,
     }
 }
