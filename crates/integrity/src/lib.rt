@@ -54,25 +54,26 @@ pub fn keys_ok(table: &[u8]) -> bool
 }
 
 // The same by a filter. Slots are passed from the last one down, and only a key that the filter may hold is compared with those passed.
+// The loop counts bytes and not slots: the compiled loop then keeps one counter and not four.
 fn keys_differ(table: &[u8], seen: &mut [u8]) -> bool
     requires { ⌜ isSome (readTable form128 (now table)) ≡ true ⌝ }
     requires { ⌜ 1 ≤ length (now seen) ⌝ }
     ensures { λ ok. ⌜ ok ≡ distinct (slotsOf (now (table .entry))) ⌝ }
 {
-    let mut next = table.len() / RECORD_SIZE;
-    while 0 < next {
-        let i = next - 1;
-        let from = i * RECORD_SIZE;
-        let r = &table[from..from + RECORD_SIZE];
+    let mut end = table.len();
+    while 0 < end {
+        let from = end - RECORD_SIZE;
+        let r = &table[from..end];
         if record::in_use(r) {
             let n = filter::spread(&r[24..48]);
             if filter::add(seen, n) {
-                let Found::Nothing = table::find_from(table, next, record::key(r)) else {
+                let Found::Nothing = table::find_from(table, end / RECORD_SIZE, record::key(r))
+                else {
                     return false;
                 };
             }
         }
-        next = i;
+        end = from;
     }
     true
 }

@@ -2,7 +2,7 @@
 -- says of the part it says of slot i.
 use Prim.Native.Nat.{ℕ, _+_, _-_, _*_, _/_, _≤_, _<_}
 use native.Mathlib.Omega.{arith}
-use mathlib.Core.Path.{_≡_, refl, sym, ap, _∙_}
+use mathlib.Core.Path.{_≡_, refl, sym, ap, subst, _∙_}
 use mathlib.Core.Bool.{true, false, not}
 use mathlib.Core.List.{List}
 use mathlib.Core.Option.{Option, some, Option·getD}
@@ -71,3 +71,37 @@ module _ (t : List ℕ) (ok : isSome (readTable form128 t) ≡ true) where
       -- the key with the zeros after it
       pub lent-key : part 24 24 (lent i t) ≡ padded 24 (fields (lent i t) .key)
       lent-key = in-use-key (lent i t) lent-in-use
+
+-- ---- the record that ends at a place, as the borrow checker writes `&table[end - 128..end]`
+
+abbrev pub ending : (end : ℕ) → List ℕ → List ℕ
+ending end t = take (end - (end - 128)) (drop (end - 128) t)
+
+module _ (t : List ℕ) (ok : isSome (readTable form128 t) ≡ true) (end : ℕ) (whole : end / 128 * 128 ≡ end) (h : 0 < end) (fits : end ≤ length t) where
+  abbrev slot : ℕ
+  slot = (end - 128) / 128
+
+  ending-within : slot < length (slotsOf t)
+  ending-within = omega (arith, table-length t ok)
+
+  ending-is : lent slot t ≡ ending end t
+  ending-is =
+      let from : slot * 128 ≡ end - 128 = omega arith in
+      let size : slot * 128 + 128 - slot * 128 ≡ end - (end - 128) = omega arith in
+      ap (λ (n : ℕ). take n (drop (slot * 128) t)) size ∙ ap (λ (n : ℕ). take (end - (end - 128)) (drop n t)) from
+
+  pub ending-readable : Readable (ending end t)
+  ending-readable = subst Readable ending-is (lent-readable t ok slot ending-within)
+
+  pub ending-slot : slotOf (ending end t) ≡ getD (slotsOf t) slot empty
+  ending-slot = ap slotOf (sym ending-is) ∙ lent-slot t ok slot ending-within
+
+  module _ (u : isEmpty (getD (slotsOf t) slot empty) ≡ false) where
+    pub ending-used : getD (slotsOf t) slot empty ≡ used (fields (ending end t))
+    ending-used = slot-used t ok slot ending-within u ∙ ap (λ (b : List ℕ). used (fields b)) ending-is
+
+    pub ending-in-use : InUse (ending end t)
+    ending-in-use = subst InUse ending-is (lent-in-use t ok slot ending-within u)
+
+    pub ending-key : part 24 24 (ending end t) ≡ padded 24 (fields (ending end t) .key)
+    ending-key = in-use-key (ending end t) ending-in-use
