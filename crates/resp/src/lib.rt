@@ -53,19 +53,12 @@ fn digit_at(s: &[u8], at: usize) -> usize
     (c - 48) as usize
 }
 
-// A byte as a wider number.
-fn wide(x: u8) -> u16
-    ensures { λ r. ⌜ (r ≡ x) × (r < 256) ⌝ }
-{
-    x as u16
-}
-
 // Whether the two bytes at place `at` are CR LF. As one number they are loaded and compared at once.
 fn is_crlf(s: &[u8], at: usize) -> bool
     requires { ⌜ at + 2 ≤ length (now s) ⌝ }
     ensures { λ r. ⌜ r ≡ endsLine (drop at (now (s .entry))) ⌝ }
 {
-    wide(s[at]) + 256 * wide(s[at + 1]) == 2573
+    s[at] as u16 + 256 * (s[at + 1] as u16) == 2573
 }
 
 // Whether CR LF stands at place `at`.
@@ -81,11 +74,14 @@ fn ends_line(s: &[u8], at: usize) -> bool
     is_crlf(s, at)
 }
 
-// The line at place `at` with any mark, whose number begins with the digit `first`, 1 to 9, and is longer. No number up to 512 has four digits.
+// The line at place `at` with any mark, whose number begins with the digit `first` and has more. No number up to 512 has four digits.
 fn long_line(s: &[u8], at: usize, first: usize) -> Line
-    requires { ⌜ (at + 4 ≤ length (now s)) × (first ≡ digitAt (now s) (at + 1)) × (1 ≤ first) × (first ≤ 9) × (endsLine (drop (at + 2) (now s)) ≡ false) ⌝ }
+    requires { ⌜ (at + 4 ≤ length (now s)) × (first ≡ digitAt (now s) (at + 1)) × (first ≤ 9) × (endsLine (drop (at + 2) (now s)) ≡ false) ⌝ }
     ensures { λ r. ⌜ r ≡ lineFrom (getD (now (s .entry)) at 0) (now (s .entry)) at ⌝ }
 {
+    if first == 0 {
+        return Line::Malformed;
+    }
     let second = digit_at(s, at + 2);
     if 9 < second {
         return Line::Malformed;
@@ -131,9 +127,6 @@ pub fn read_line(s: &[u8], at: usize, mark: u8) -> Line
             value: first,
             next: at + 4,
         };
-    }
-    if first == 0 {
-        return Line::Malformed;
     }
     long_line(s, at, first)
 }
