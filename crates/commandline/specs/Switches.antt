@@ -4,7 +4,7 @@ use mathlib.Core.Bool.{Bool, true, false, cond, _&&_}
 use mathlib.Core.List.{List, [], _∷_}
 use mathlib.Core.Option.{Option, none, some}
 use lib.Dec.{leb, eqb}
-use Rattle.model.specs.Bytes.{text, uppers}
+use Rattle.model.specs.Bytes.{text}
 use Rattle.model.specs.Optional.{only}
 use Rattle.model.specs.Number.{readVersion}
 use Rattle.model.specs.Command.{look}
@@ -16,15 +16,15 @@ abbrev pub dashed : List ℕ → Bool
 dashed [] = false
 dashed (c ∷ s) = eqb c 45
 
--- the options in upper case
+-- the options
 abbrev pub switches : List (List ℕ × Switch)
 switches =
-    (text "-T", Table)
-    ∷ (text "--TIME", Time)
-    ∷ (text "--INIT", Init)
-    ∷ (text "--LIST", Listing)
-    ∷ (text "--HELP", Help)
-    ∷ (text "--STATUS", Status)
+    (text "-t", Table)
+    ∷ (text "--time", Time)
+    ∷ (text "--init", Init)
+    ∷ (text "--list", Listing)
+    ∷ (text "--help", Help)
+    ∷ (text "--status", Status)
     ∷ []
 
 abbrev pub switchFrom : Option Switch → Switch
@@ -33,7 +33,7 @@ switchFrom (some s) = s
 
 -- any other word is the first of a command
 abbrev pub switchOf : List ℕ → Switch
-switchOf w = cond (dashed w) (switchFrom (look (uppers w) switches)) Word
+switchOf w = cond (dashed w) (switchFrom (look w switches)) Word
 
 -- whether the argument after an option is its value
 abbrev pub takesValue : Switch → Bool

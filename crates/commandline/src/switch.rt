@@ -1,6 +1,5 @@
 // The options by their spelling.
 ghost use mathlib.Core.Path.{_≡_};
-ghost use Rattle.model.specs.Bytes.{uppers};
 ghost use Rattle.model.specs.Command.{look};
 ghost use Rattle.commandline.specs.Switches.{switches, switchFrom, switchOf, dashed, takesValue};
 
@@ -26,26 +25,29 @@ fn is_dashed(w: &[u8]) -> bool
     w[0] == b'-'
 }
 
-// The spellings of the options in upper case, each behind its length.
-const SPELLINGS: [u8; 40] = *b"\x02-T\x06--TIME\x06--INIT\x06--LIST\x06--HELP\x08--STATUS";
-
-// The option by its place among the spellings; the last entry is for every other one.
-const SWITCHES: [Switch; 7] = [
-    Switch::Table,
-    Switch::Time,
-    Switch::Init,
-    Switch::List,
-    Switch::Help,
-    Switch::Status,
-    Switch::Unknown,
-];
-
-// The option that a word with a minus spells, in any case of its letters.
+// The option that a word with a minus spells.
 fn spelled(w: &[u8]) -> Switch
-    ensures { λ r. ⌜ r ≡ switchFrom (look (uppers (now (w .entry))) switches) ⌝ }
+    ensures { λ r. ⌜ r ≡ switchFrom (look (now (w .entry)) switches) ⌝ }
 {
-    let place = keyword::place_of(w, &SPELLINGS);
-    SWITCHES[place]
+    if slice::same(w, b"-t") {
+        return Switch::Table;
+    }
+    if slice::same(w, b"--time") {
+        return Switch::Time;
+    }
+    if slice::same(w, b"--init") {
+        return Switch::Init;
+    }
+    if slice::same(w, b"--list") {
+        return Switch::List;
+    }
+    if slice::same(w, b"--help") {
+        return Switch::Help;
+    }
+    if slice::same(w, b"--status") {
+        return Switch::Status;
+    }
+    Switch::Unknown
 }
 
 // What a word is before the first word of a command.
