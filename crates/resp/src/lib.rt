@@ -53,7 +53,7 @@ fn digit_at(s: &[u8], at: usize) -> usize
     (c - 48) as usize
 }
 
-// Whether the two bytes at place `at` are CR LF. As one number they are loaded and compared at once.
+// Whether the two bytes at place `at` are CR LF: 13 + 256 * 10. As one number they are loaded and compared at once.
 fn is_crlf(s: &[u8], at: usize) -> bool
     requires { ⌜ at + 2 ≤ length (now s) ⌝ }
     ensures { λ r. ⌜ r ≡ endsLine (drop at (now (s .entry))) ⌝ }
@@ -105,7 +105,7 @@ fn long_line(s: &[u8], at: usize, first: usize) -> Line
     Line::Malformed
 }
 
-// The line with mark `mark` at place `at`: its number, up to 512, and the place after it. No line has fewer than 4 bytes.
+// The line with mark `mark` at place `at`: its number, up to 512, and the place after it. No line has fewer than 4 bytes, and most have 4.
 pub fn read_line(s: &[u8], at: usize, mark: u8) -> Line
     ensures { λ r. ⌜ r ≡ lineFrom mark (now (s .entry)) at ⌝ }
 {
