@@ -1,1 +1,4 @@
-pub mod Requests
+-- Laws of the codes of keywords and of rules.
+pub mod Codes
+pub mod Letters
+pub mod Bits

@@ -1,20 +1,13 @@
-// A command by value. Its words stay in the borrowed bytes: a span says where.
+// A command by value: what it does, its name and its options, and the rule of each name. The key and the value stay in the borrowed bytes, as
+// words 1 and 2.
+mod keyword;
+
+pub use keyword::name_of;
+pub use keyword::option_of;
 ghost use mathlib.Core.Path.{_≡_};
-ghost use Prim.Native.Nat.{_≤_};
-ghost use lib.ListN.{length};
-ghost use Rattle.command.specs.Command.{bytesOf};
-
-// The latest time and expiry, 2^62.
-pub const LATEST: u64 = 4611686018427387904;
-
-// The highest version, 2^63 - 1.
-pub const TOP: u64 = 9223372036854775807;
-
-// Where the bytes of a word begin and end.
-pub struct Span {
-    pub start: usize,
-    pub end: usize,
-}
+ghost use Rattle.model.specs.Command.{ruleOf};
+ghost use Rattle.command.specs.Words.{modelName};
+ghost use Rattle.command.specs.Rules.{modelRule};
 
 // NX and XX.
 pub enum Presence {
@@ -49,81 +42,65 @@ pub enum End {
     Front,
 }
 
-// What EXSET stores and answers.
-pub struct Set {
-    pub value: Span,
+// On what terms a value is written: NX or XX, VER or ABS, and what becomes of the expiry.
+pub struct Terms {
     pub presence: Presence,
     pub change: Change,
     pub expire: Expire,
-    pub flags: u32,
-    pub withversion: bool,
 }
 
-// What EXINCRBY adds, within which bounds, and answers.
+// EXSET: how it stores, and whether it answers with the version.
+pub struct Set {
+    pub terms: Terms,
+    pub flags: u32,
+    pub with_version: bool,
+}
+
+// EXINCRBY: what it adds, on what terms and within which bounds, and whether it answers with the version.
 pub struct Increment {
     pub by: i64,
-    pub presence: Presence,
-    pub change: Change,
-    pub expire: Expire,
+    pub terms: Terms,
     pub min: Bound,
     pub max: Bound,
-    pub nonnegative: bool,
-    pub withversion: bool,
+    pub non_negative: bool,
+    pub with_version: bool,
 }
 
-// What is to be done at the key.
+// EXAPPEND and EXPREPEND: where the text goes, and on what terms.
+pub struct Join {
+    pub end: End,
+    pub terms: Terms,
+}
+
+// EXCAS: the version that the record must have, and what becomes of the expiry.
+pub struct Swap {
+    pub version: u64,
+    pub expire: Expire,
+}
+
+// What is to be done at the key, word 1 of the command, with the value, word 2, where there is one.
 pub enum Action {
-    // EXSET
-    Set(Set),
-    // EXGET
-    Get {
-        with_flags: bool,
-    },
-    // EXSETVER
-    SetVersion {
-        version: u64,
-    },
-    // EXINCRBY
-    Increment(Increment),
-    // EXCAS
-    Swap {
-        value: Span,
-        version: u64,
-        expire: Expire,
-    },
-    // EXCAD
-    Remove {
-        version: u64,
-    },
+    Exset(Set),
+    Exget { with_flags: bool },
+    Exsetver { version: u64 },
+    Exincrby(Increment),
+    Excas(Swap),
+    Excad { version: u64 },
     // EXAPPEND and EXPREPEND
-    Join {
-        end: End,
-        value: Span,
-        presence: Presence,
-        change: Change,
-    },
-    // EXGAE
-    Touch {
-        expiry: u64,
-    },
-    // DEL
-    Delete,
+    Exjoin(Join),
+    Exgae { expire: Expire },
+    Del,
 }
 
-// A command: its key and what is to be done there.
-pub struct Request {
-    pub key: Span,
-    pub action: Action,
-}
-
-// A command, or document 01's number of the refusal, 5 to 11.
+// What a command does, or document 01's number of the refusal, 5 to 11.
 pub enum Parsed {
-    Request(Request),
+    Action(Action),
     Refused(u32),
 }
 
 // ---- names and option words
 
+// The names of commands.
 pub enum Name {
     Exset,
     Exget,
@@ -145,13 +122,13 @@ pub enum Named {
 
 // Options that hold no choice.
 pub enum Plain {
-    Keepttl,
+    KeepTtl,
     Flags,
     Min,
     Max,
-    Nonnegative,
-    Withversion,
-    Withflags,
+    NonNegative,
+    WithVersion,
+    WithFlags,
 }
 
 // An option. A time word has its unit in milliseconds; EX and PX count from the call's time.
@@ -168,12 +145,142 @@ pub enum Spelled {
     Unknown,
 }
 
-// The bytes of a word of the command.
-pub fn word_of(s: &[u8], w: Span) -> &[u8]
-    requires { ⌜ (w .start ≤ w .end) × (w .end ≤ length (now s)) ⌝ }
-    ensures { λ r. ⌜ now r ≡ bytesOf (now (s .entry)) w ⌝ }
+// ---- the rule of a command
+
+// What number the last fixed word is.
+pub enum Number {
+    Absent,
+    Signed,
+    Version,
+}
+
+// The fixed words, the name counted; whether more are refused; whether the third is a value; what number the last fixed word is; the kinds of
+// options, one bit for each; whether a time word is needed; whether the expiry is kept where no option says.
+pub struct Rule {
+    pub fixed: usize,
+    pub exact: bool,
+    pub valued: bool,
+    pub number: Number,
+    pub kinds: u16,
+    pub timed: bool,
+    pub keeps: bool,
+}
+
+// The kinds of options, as bits: bit n is that of the model's kind n.
+const TIME: u16 = 1;
+
+const KEEP_TTL: u16 = 2;
+
+const PRESENCE: u16 = 4;
+
+const VERSION: u16 = 8;
+
+const FLAGS: u16 = 16;
+
+const MIN: u16 = 32;
+
+const MAX: u16 = 64;
+
+const NON_NEGATIVE: u16 = 128;
+
+const WITH_VERSION: u16 = 256;
+
+const WITH_FLAGS: u16 = 512;
+
+// The rule of a command.
+pub fn rule_of(name: Name) -> Rule
+    ensures { λ r. ⌜ modelRule r ≡ ruleOf (modelName name) ⌝ }
 {
-    let from = w.start;
-    let to = w.end;
-    &s[from..to]
+    match name {
+        Name::Exset => Rule {
+            fixed: 3,
+            exact: false,
+            valued: true,
+            number: Number::Absent,
+            kinds: TIME | PRESENCE | VERSION | FLAGS | WITH_VERSION,
+            timed: false,
+            keeps: false,
+        },
+        Name::Exget => Rule {
+            fixed: 2,
+            exact: false,
+            valued: false,
+            number: Number::Absent,
+            kinds: WITH_FLAGS,
+            timed: false,
+            keeps: false,
+        },
+        Name::Exsetver => Rule {
+            fixed: 3,
+            exact: true,
+            valued: false,
+            number: Number::Version,
+            kinds: 0,
+            timed: false,
+            keeps: false,
+        },
+        Name::Exincrby => Rule {
+            fixed: 3,
+            exact: false,
+            valued: false,
+            number: Number::Signed,
+            kinds: TIME | PRESENCE | VERSION | MIN | MAX | NON_NEGATIVE | WITH_VERSION,
+            timed: false,
+            keeps: true,
+        },
+        Name::Excas => Rule {
+            fixed: 4,
+            exact: false,
+            valued: true,
+            number: Number::Version,
+            kinds: TIME | KEEP_TTL,
+            timed: false,
+            keeps: false,
+        },
+        Name::Excad => Rule {
+            fixed: 3,
+            exact: true,
+            valued: false,
+            number: Number::Version,
+            kinds: 0,
+            timed: false,
+            keeps: false,
+        },
+        Name::Exappend => Rule {
+            fixed: 3,
+            exact: false,
+            valued: true,
+            number: Number::Absent,
+            kinds: PRESENCE | VERSION,
+            timed: false,
+            keeps: true,
+        },
+        Name::Exprepend => Rule {
+            fixed: 3,
+            exact: false,
+            valued: true,
+            number: Number::Absent,
+            kinds: PRESENCE | VERSION,
+            timed: false,
+            keeps: true,
+        },
+        Name::Exgae => Rule {
+            fixed: 2,
+            exact: false,
+            valued: false,
+            number: Number::Absent,
+            kinds: TIME,
+            timed: true,
+            keeps: false,
+        },
+        Name::Del => Rule {
+            fixed: 2,
+            exact: true,
+            valued: false,
+            number: Number::Absent,
+            kinds: 0,
+            timed: false,
+            keeps: false,
+        },
+    }
 }

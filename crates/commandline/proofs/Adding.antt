@@ -8,7 +8,7 @@ use borrow.Author.Tests.{le-leb, lt-leb}
 use Rattle.model.specs.Number.{natText}
 use Rattle.model.specs.Resp.{bulkBytes, line}
 use Rattle.model.proofs.Numbers.{length-natText}
-use Rattle.number.specs.Wrote.{Wrote}
+use Rattle.slice.specs.Wrote.{Wrote}
 use Rattle.commandline.specs.Words.{Added}
 
 -- a line takes at most 23 bytes

@@ -8,7 +8,7 @@ ghost use Rattle.commandline.specs.Switches.{readRecords};
 // The table's file where none is named.
 const NAME: [u8; 15] = *b"pietrunel.table";
 
-// The number that a text says, from 1 to 256.
+// The number that a text means, from 1 to 256.
 fn read_records(s: &[u8]) -> Natural
     ensures { λ r. ⌜ r ≡ naturalFrom (readRecords (now (s .entry))) ⌝ }
 {
@@ -23,7 +23,7 @@ fn read_records(s: &[u8]) -> Natural
     }
 }
 
-// The number below 2^63 that the argument at a place says; place 0 says none.
+// The number below 2^63 that the argument at a place means; place 0 means none.
 pub fn number_at(place: usize) -> Natural {
     let mut word = [0u8; 32];
     let n = os::arg(place, &mut word);
@@ -36,7 +36,7 @@ pub fn number_at(place: usize) -> Natural {
     number::read_version(&word[..n])
 }
 
-// The number of records that the argument at a place says.
+// The number of records that the argument at a place means.
 pub fn records_at(place: usize) -> Natural {
     let mut word = [0u8; 32];
     let n = os::arg(place, &mut word);

@@ -1,22 +1,23 @@
 // The sum that EXINCRBY stores, or document 01's number of its refusal.
 use command::Bound;
+use command::Increment;
 use number::Signed;
 use number::Sum;
 ghost use mathlib.Core.Path.{_≡_};
-ghost use mathlib.Core.Option.{some};
-ghost use Rattle.model.specs.Execute.{notBelow, notAbove, floored, sum};
-ghost use Rattle.command.specs.Command.{boundOf};
-ghost use Rattle.count.specs.Total.{totalFrom, totalOf};
+ghost use mathlib.Core.Option.{none, some};
+ghost use Rattle.model.specs.Execute.{notBelow, notAbove, floored, sum, total};
+ghost use Rattle.command.specs.Command.{modelBound, modelIncrement};
+ghost use Rattle.count.specs.Counted.{checkedCounted};
 
 // A sum, or the number of the refusal, 13 or 14.
-pub enum Total {
+pub enum Counted {
     Value(i64),
     Refused(u32),
 }
 
 // Whether a number is at least MIN.
 fn not_below(min: Bound, z: i64) -> bool
-    ensures { λ r. ⌜ r ≡ notBelow (boundOf min) z ⌝ }
+    ensures { λ r. ⌜ r ≡ notBelow (modelBound min) z ⌝ }
 {
     let Bound::At(least) = min else {
         return true;
@@ -29,7 +30,7 @@ fn not_below(min: Bound, z: i64) -> bool
 
 // Whether a number is at most MAX.
 fn not_above(max: Bound, z: i64) -> bool
-    ensures { λ r. ⌜ r ≡ notAbove (boundOf max) z ⌝ }
+    ensures { λ r. ⌜ r ≡ notAbove (modelBound max) z ⌝ }
 {
     let Bound::At(most) = max else {
         return true;
@@ -53,30 +54,39 @@ fn floor(non_negative: bool, z: i64) -> i64
     z
 }
 
-// The sum of two numbers, tested against 64 bits, MIN and MAX, and after that floored.
-pub fn add_within(stored: i64, by: i64, min: Bound, max: Bound, non_negative: bool) -> Total
-    ensures { λ r. ⌜ r ≡ totalFrom (sum stored by (boundOf min) (boundOf max) «non_negative») ⌝ }
+// The sum of a stored number and the increment, tested against 64 bits, MIN and MAX, and after that floored.
+pub fn sum(increment: Increment, stored: i64) -> Counted
+    ensures { λ r. ⌜ checkedCounted r ≡ sum (modelIncrement increment) stored ⌝ }
 {
-    let Sum::Fits(z) = number::add(stored, by) else {
-        return Total::Refused(14);
+    let Sum::Fits(z) = number::add(stored, increment.by) else {
+        return Counted::Refused(14);
     };
     // the range is tested on the sum itself, not on what is kept of it
-    let kept = floor(non_negative, z);
+    let kept = floor(increment.non_negative, z);
+    let min = increment.min;
+    let max = increment.max;
     if !not_below(min, z) {
-        return Total::Refused(14);
+        return Counted::Refused(14);
     }
     if !not_above(max, z) {
-        return Total::Refused(14);
+        return Counted::Refused(14);
     }
-    Total::Value(kept)
+    Counted::Value(kept)
 }
 
-// The sum of the number that a stored text says and another.
-pub fn add_to_text(text: &[u8], by: i64, min: Bound, max: Bound, non_negative: bool) -> Total
-    ensures { λ r. ⌜ r ≡ totalFrom (totalOf by (boundOf min) (boundOf max) «non_negative» (some (now (text .entry)))) ⌝ }
+// The sum where the key is absent: it counts from 0.
+pub fn sum_absent(increment: Increment) -> Counted
+    ensures { λ r. ⌜ checkedCounted r ≡ total (modelIncrement increment) none ⌝ }
+{
+    sum(increment, 0)
+}
+
+// The sum of the number that a stored text means and the increment.
+pub fn sum_text(increment: Increment, text: &[u8]) -> Counted
+    ensures { λ r. ⌜ checkedCounted r ≡ total (modelIncrement increment) (some (now (text .entry))) ⌝ }
 {
     let Signed::Value(stored) = number::read_signed(text) else {
-        return Total::Refused(13);
+        return Counted::Refused(13);
     };
-    add_within(stored, by, min, max, non_negative)
+    sum(increment, stored)
 }

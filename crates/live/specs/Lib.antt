@@ -1,2 +1,2 @@
-pub mod Live
-pub mod Admission
+pub mod Under
+pub mod After

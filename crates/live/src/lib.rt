@@ -1,28 +1,36 @@
-// The live record under a command's key, and what a write makes of its version, flags and expiry.
+// The record under a command's key, live or expired, and what a write makes of its version, flags and expiry. Nothing here writes.
 use command::Change;
 use command::Expire;
 use command::Presence;
-use command::TOP;
+use command::Terms;
+use record::Attributes;
+use record::Form;
 use table::Found;
-use table::RECORD_SIZE;
 ghost use Prim.Native.Nat.{ℕ};
 ghost use mathlib.Core.Path.{_≡_};
-ghost use mathlib.Core.Bool.{true};
-ghost use mathlib.Core.List.{List};
-ghost use mathlib.Core.Option.{none};
-ghost use Rattle.model.specs.Command.{isSome, raise};
-ghost use Rattle.model.specs.Execute.{agrees, versionAfter, flagsAfter, expiryAfter, allowed};
-ghost use Rattle.model.specs.Table.{form128, readTable};
-ghost use Rattle.command.specs.Command.{presenceOf, changeOf, expireOf};
-ghost use Rattle.change.specs.Slot.{InUseAt};
-ghost use Rattle.live.specs.Admission.{admissionOf};
-ghost use Rattle.live.specs.Live.{liveOf, Sound, IsLive, IsRecordAt, flagsOf, versionFrom};
+ghost use mathlib.Core.Option.{Option, some};
+ghost use Rattle.model.specs.Optional.{isSome};
+ghost use Rattle.model.specs.Checked.{Checked};
+ghost use Rattle.model.specs.Command.{raise};
+ghost use Rattle.model.specs.Execute.{Effect, versionAfter, flagsAfter, expiryAfter, allowed, agrees, oneHigher, admit};
+ghost use Rattle.record.specs.Forms.{formOf};
+ghost use Rattle.command.specs.Command.{modelPresence, modelChange, modelExpire, modelTerms};
+ghost use Rattle.table.specs.Slots.{Reads};
+ghost use Rattle.live.specs.Under.{IsUnder, storedIn};
+ghost use Rattle.live.specs.After.{modelFlags, checkedVersion, admitted};
 
-// What NX, XX and VER let a write do: go on, answer nil, or be refused as stale.
-pub enum Admission {
-    Granted,
-    Nil,
-    Stale,
+// What stands under a key: a live record, an expired one, or none.
+pub enum Lookup {
+    Live { slot: usize, attributes: Attributes },
+    Expired { slot: usize },
+    Absent,
+}
+
+// Where a command works: the form of the records, the time, and what stands under its key.
+pub struct Target {
+    pub form: Form,
+    pub time: u64,
+    pub found: Lookup,
 }
 
 // The flags of a record that is written: those stored, or these.
@@ -31,131 +39,163 @@ pub enum Flags {
     Set(u32),
 }
 
-// The version of a record that is written; none where it is at its top and would rise.
+// The version of a record that is written; none where it is the highest and would rise.
 pub enum Version {
     Value(u64),
-    Top,
+    Highest,
 }
 
-// The slot of the live record with the key.
-pub fn find_live(table: &[u8], time: u64, key: &[u8]) -> Found
-    requires { ⌜ isSome (readTable form128 (now table)) ≡ true ⌝ }
-    ensures { λ r. ⌜ IsLive (now (table .entry)) time (now (key .entry)) r ⌝ }
+// What NX, XX and VER let a write do: go on, answer nil, or be refused as stale.
+pub enum Admission {
+    Granted,
+    Nil,
+    Stale,
+}
+
+// The one search for a command's key.
+pub fn look_up(table: &[u8], form: Form, time: u64, key: &[u8]) -> Lookup
+    requires { ⌜ Reads (formOf form) (now table) ⌝ }
+    ensures { λ r. ⌜ IsUnder (formOf form) (now (table .entry)) time (now (key .entry)) r ⌝ }
 {
-    let Found::At(slot) = table::find(table, key) else {
-        return Found::Nothing;
+    let Found::At(slot) = table::find(table, form, key) else {
+        return Lookup::Absent;
     };
-    if record::is_live(record_at(table, slot), time) {
-        return Found::At(slot);
+    let r = table::record_at(table, form, slot);
+    let attributes = record::attributes_of(r);
+    if record::is_live(r, time) {
+        return Lookup::Live { slot, attributes };
     }
-    Found::Nothing
+    Lookup::Expired { slot }
 }
 
-// The bytes of the record in use at a slot.
-pub fn record_at(table: &[u8], slot: usize) -> &[u8]
-    requires { ⌜ isSome (readTable form128 (now table)) ≡ true ⌝ }
-    requires { ⌜ InUseAt (now table) slot ⌝ }
-    ensures { λ r. ⌜ IsRecordAt (now (table .entry)) slot (now r) ⌝ }
+// A version one higher.
+fn one_higher(version: u64) -> Version
+    ensures { λ r. ⌜ checkedVersion r ≡ oneHigher version ⌝ }
 {
-    let from = slot * RECORD_SIZE;
-    &table[from..from + RECORD_SIZE]
+    if version < record::VERSION_LIMIT - 1 {
+        return Version::Value(version + 1);
+    }
+    Version::Highest
 }
 
-// The version after a write: the one that ABS gives, else 1 for an absent key, else one higher.
-pub fn version_after(table: &[u8], live: Found, change: Change) -> Version
-    requires { ⌜ Sound (now table) live ⌝ }
-    ensures { λ r. ⌜ r ≡ versionFrom (versionAfter (changeOf change) (liveOf (now (table .entry)) live)) ⌝ }
+// The version that a write without ABS stores: 1 under an absent key, else one higher.
+fn risen(found: Lookup) -> Version
+    ensures { λ r. ⌜ ((e : Option ℕ) → checkedVersion r ≡ versionAfter (raise e) (storedIn found)) ⌝ }
+{
+    match found {
+        Lookup::Live {
+            slot: _,
+            attributes,
+        } => one_higher(attributes.version),
+        Lookup::Expired { slot: _ } => Version::Value(1),
+        Lookup::Absent => Version::Value(1),
+    }
+}
+
+// The version after a write: the one that ABS gives, else a risen one.
+pub fn version_after(found: Lookup, change: Change) -> Version
+    ensures { λ r. ⌜ checkedVersion r ≡ versionAfter (modelChange change) (storedIn found) ⌝ }
 {
     match change {
         Change::Set(version) => Version::Value(version),
-        Change::Raise => risen(table, live),
-        Change::RaiseFrom(_) => risen(table, live),
+        Change::Raise => risen(found),
+        Change::RaiseFrom(_) => risen(found),
     }
-}
-
-// The version that a write without ABS gives: 1 for an absent key, else one higher.
-fn risen(table: &[u8], live: Found) -> Version
-    requires { ⌜ Sound (now table) live ⌝ }
-    ensures { λ r. ⌜ r ≡ versionFrom (versionAfter (raise none) (liveOf (now (table .entry)) live)) ⌝ }
-{
-    let Found::At(slot) = live else {
-        return Version::Value(1);
-    };
-    let stored = record::version(record_at(table, slot));
-    if stored < TOP {
-        return Version::Value(stored + 1);
-    }
-    Version::Top
 }
 
 // The flags after a write: those given, else those stored, else 0.
-pub fn flags_after(table: &[u8], live: Found, flags: Flags) -> u32
-    requires { ⌜ Sound (now table) live ⌝ }
-    ensures { λ r. ⌜ r ≡ flagsAfter (flagsOf flags) (liveOf (now (table .entry)) live) ⌝ }
+pub fn flags_after(found: Lookup, flags: Flags) -> u32
+    ensures { λ r. ⌜ r ≡ flagsAfter (modelFlags flags) (storedIn found) ⌝ }
 {
     match flags {
         Flags::Set(given) => given,
-        Flags::Keep => match live {
-            Found::Nothing => 0,
-            Found::At(slot) => record::flags(record_at(table, slot)),
+        Flags::Keep => match found {
+            Lookup::Live {
+                slot: _,
+                attributes,
+            } => attributes.flags,
+            Lookup::Expired { slot: _ } => 0,
+            Lookup::Absent => 0,
         },
     }
 }
 
-// The expiry after a write: the one given, or the one stored where it is kept, else 0.
-pub fn expiry_after(table: &[u8], live: Found, expire: Expire) -> u64
-    requires { ⌜ Sound (now table) live ⌝ }
-    ensures { λ r. ⌜ r ≡ expiryAfter (expireOf expire) (liveOf (now (table .entry)) live) ⌝ }
+// The expiry after a write: the one given, or the one stored where it is kept, else none.
+pub fn expiry_after(found: Lookup, expire: Expire) -> u64
+    ensures { λ r. ⌜ r ≡ expiryAfter (modelExpire expire) (storedIn found) ⌝ }
 {
     match expire {
         Expire::Clear => 0,
         Expire::At(expiry) => expiry,
-        Expire::Keep => match live {
-            Found::Nothing => 0,
-            Found::At(slot) => record::expiry(record_at(table, slot)),
+        Expire::Keep => match found {
+            Lookup::Live {
+                slot: _,
+                attributes,
+            } => attributes.expiry,
+            Lookup::Expired { slot: _ } => 0,
+            Lookup::Absent => 0,
         },
+    }
+}
+
+// Whether a record is live under the key.
+fn is_live(found: Lookup) -> bool
+    ensures { λ r. ⌜ r ≡ isSome (storedIn found) ⌝ }
+{
+    match found {
+        Lookup::Live {
+            slot: _,
+            attributes: _,
+        } => true,
+        Lookup::Expired { slot: _ } => false,
+        Lookup::Absent => false,
     }
 }
 
 // Whether NX or XX lets a write pass.
-fn allowed(presence: Presence, live: Found) -> bool
-    ensures { λ r. ⌜ ((t : List ℕ) → r ≡ allowed (presenceOf presence) (liveOf t live)) ⌝ }
+fn allowed(found: Lookup, presence: Presence) -> bool
+    ensures { λ r. ⌜ r ≡ allowed (modelPresence presence) (storedIn found) ⌝ }
 {
     match presence {
         Presence::Always => true,
-        Presence::IfAbsent => match live {
-            Found::Nothing => true,
-            Found::At(_) => false,
-        },
-        Presence::IfLive => match live {
-            Found::Nothing => false,
-            Found::At(_) => true,
-        },
+        Presence::IfAbsent => !is_live(found),
+        Presence::IfLive => is_live(found),
     }
 }
 
-// Whether VER, if it is given, names the live record's version. An absent key has none to compare.
-fn agrees(table: &[u8], live: Found, change: Change) -> bool
-    requires { ⌜ Sound (now table) live ⌝ }
-    ensures { λ r. ⌜ r ≡ agrees (changeOf change) (liveOf (now (table .entry)) live) ⌝ }
+// Whether the version is that of the live record. An absent key has none to compare.
+fn has_version(found: Lookup, version: u64) -> bool
+    ensures { λ r. ⌜ r ≡ agrees (raise (some version)) (storedIn found) ⌝ }
+{
+    match found {
+        Lookup::Live {
+            slot: _,
+            attributes,
+        } => version == attributes.version,
+        Lookup::Expired { slot: _ } => true,
+        Lookup::Absent => true,
+    }
+}
+
+// Whether VER, if it is given, names the live record's version.
+fn agrees(found: Lookup, change: Change) -> bool
+    ensures { λ r. ⌜ r ≡ agrees (modelChange change) (storedIn found) ⌝ }
 {
     match change {
         Change::Raise => true,
         Change::Set(_) => true,
-        Change::RaiseFrom(expected) => match live {
-            Found::Nothing => true,
-            Found::At(slot) => expected == record::version(record_at(table, slot)),
-        },
+        Change::RaiseFrom(expected) => has_version(found, expected),
     }
 }
 
 // Tests NX and XX, and after them VER.
-pub fn admit(table: &[u8], live: Found, presence: Presence, change: Change) -> Admission
-    requires { ⌜ Sound (now table) live ⌝ }
-    ensures { λ r. ⌜ r ≡ admissionOf (allowed (presenceOf presence) (liveOf (now (table .entry)) live)) (agrees (changeOf change) (liveOf (now (table .entry)) live)) ⌝ }
+pub fn admit(found: Lookup, terms: Terms) -> Admission
+    ensures { λ r. ⌜ ((next : Checked Effect) → admitted r next ≡ admit (modelTerms terms) (storedIn found) next) ⌝ }
 {
-    let allowed = allowed(presence, live);
-    let agrees = agrees(table, live, change);
+    let presence = terms.presence;
+    let change = terms.change;
+    let allowed = allowed(found, presence);
+    let agrees = agrees(found, change);
     if !allowed {
         return Admission::Nil;
     }

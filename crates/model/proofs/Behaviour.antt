@@ -1,59 +1,68 @@
 -- Rules of document 01 that a wrong definition could break unseen by the bench sheet, each as a law about `execute`.
-use mathlib.Core.Path.{_≡_, refl, sym, ap, _∙_}
-use mathlib.Core.Bool.{Bool, true, false, cond}
+use mathlib.Core.Path.{_≡_, refl, ap, _∙_}
+use mathlib.Core.Bool.{Bool, true, false}
 use mathlib.Core.List.{List}
-use mathlib.Core.Option.{Option, none, some}
+use mathlib.Core.Option.{Option, none, some, Option·map}
 use Prim.Native.Nat.{ℕ, suc, _≤_}
-use lib.Dec.{ltb, leb, eqb}
 use lib.ListN.{length}
-use lib.IntN.{ℤ}
+use lib.Dec.{leb, ltb, eqb}
 use borrow.Author.Tests.{le-ltb}
 use Rattle.model.specs.Checked.{Checked, refuse, ok}
 use Rattle.model.specs.Number.{versionLimit}
-use Rattle.model.specs.Table.{Form, Slot, empty, used, Found, findLive}
+use Rattle.model.specs.Table.{Form, Record, Slot, empty, used}
+use Rattle.model.specs.Search.{Placed, Lookup, liveAt, lookup, liveRecord}
 use Rattle.model.specs.Resp.{one, nil}
-use Rattle.model.specs.Command.{Presence, Change, raise, set, Expire, End, Command, exset, exincrby, excas, exjoin}
-use Rattle.model.specs.Execute.{Effect, answer, store, minusOne, staleReply, oneHigher, versionAfter, agrees, New, counted, Write, setting, counting, swapping, joining, valueIn, placeOf, write, allowed, orNil, onLive, executeOn, keyOf, execute}
-use Rattle.model.proofs.Steps.{Comes, by-check, by-given, by-step}
+use Rattle.model.specs.Command.{Change, raise, Expire, Terms, Set, Increment, Join, Action, exset, exincrby, excas, exjoin, under}
+use Rattle.model.specs.Execute.{Effect, answer, store, versionAfter, agrees, New, total, put, write, allowed, orNil, admit, executeOn, execute}
+use Rattle.model.proofs.Basics.{by-cond}
+use Rattle.model.proofs.Steps.{Comes, Any, by-check, by-given, by-step, by-next}
 
-module _ (f : Form) (now : ℕ) (ss : List Slot) where
-  -- a command, once it is known what is live under its key
-  on-found : (c : Command) (o : Option Found) → findLive now (keyOf c) ss ≡ o → execute f now ss c ≡ executeOn f now ss o c
+-- a command on other terms, and terms with another change of the version
+abbrev pub setOn : Terms → Set → Set
+setOn t s = record { value = s .value; terms = t; flags = s .flags; withVersion = s .withVersion }
+
+abbrev pub incrementOn : Terms → Increment → Increment
+incrementOn t i = record { by = i .by; terms = t; min = i .min; max = i .max; nonNegative = i .nonNegative; withVersion = i .withVersion }
+
+abbrev pub joinOn : Terms → Join → Join
+joinOn t j = record { end = j .end; value = j .value; terms = t }
+
+abbrev pub changed : Change → Terms → Terms
+changed c t = record { presence = t .presence; change = c; expire = t .expire }
+
+module _ (f : Form) (now : ℕ) (ss : List Slot) (k : List ℕ) where
+  -- an action, once it is known what stands under its key
+  looked-up : (a : Action) (l : Lookup) → lookup now k ss ≡ l → execute f now ss (under k a) ≡ executeOn f now ss l (under k a)
   unfolding execute
-  on-found c o e = ap (λ (o : Option Found). executeOn f now ss o c) e
+  looked-up a l e = ap (λ (l : Lookup). executeOn f now ss l (under k a)) e
 
   -- ---- NX and XX come before VER
 
-  module _ (k : List ℕ) (p : Presence) (o : Option Found) (e : findLive now k ss ≡ o) (forbidden : allowed p o ≡ false) where
-    pub exset-nil : (v : List ℕ) (c : Change) (x : Expire) (g : ℕ) (w : Bool) → execute f now ss (exset k v p c x g w) ≡ ok (answer (one nil))
-    exset-nil v c x g w = on-found (exset k v p c x g w) o e ∙ rw forbidden
+  module _ (l : Lookup) (e : lookup now k ss ≡ l) where
+    pub exset-nil : (s : Set) → allowed (s .terms .presence) (liveRecord l) ≡ false → execute f now ss (under k (exset s)) ≡ ok (answer (one nil))
+    exset-nil s h = looked-up (exset s) l e ∙ rw h
 
-    pub exincrby-nil : (z : ℤ) (c : Change) (x : Expire) (min max : Option ℤ) (nn w : Bool)
-        → execute f now ss (exincrby k z p c x min max nn w) ≡ ok (answer (one nil))
-    exincrby-nil z c x min max nn w = on-found (exincrby k z p c x min max nn w) o e ∙ rw forbidden
+    pub exincrby-nil : (i : Increment) → allowed (i .terms .presence) (liveRecord l) ≡ false → execute f now ss (under k (exincrby i)) ≡ ok (answer (one nil))
+    exincrby-nil i h = looked-up (exincrby i) l e ∙ rw h
 
-    pub exjoin-nil : (end : End) (v : List ℕ) (c : Change) → execute f now ss (exjoin end k v p c) ≡ ok (answer (one nil))
-    exjoin-nil end v c = on-found (exjoin end k v p c) o e ∙ rw forbidden
+    pub exjoin-nil : (j : Join) → allowed (j .terms .presence) (liveRecord l) ≡ false → execute f now ss (under k (exjoin j)) ≡ ok (answer (one nil))
+    exjoin-nil j h = looked-up (exjoin j) l e ∙ rw h
 
   -- ---- VER is ignored on an absent key
 
-  module _ (k : List ℕ) (p : Presence) (n : ℕ) (e : findLive now k ss ≡ none) where
-    pub exset-absent : (v : List ℕ) (x : Expire) (g : ℕ) (w : Bool)
-        → execute f now ss (exset k v p (raise (some n)) x g w) ≡ execute f now ss (exset k v p (raise none) x g w)
-    exset-absent v x g w = on-found (exset k v p (raise (some n)) x g w) none e ∙ sym (on-found (exset k v p (raise none) x g w) none e)
+  module _ (n : ℕ) (e : liveRecord (lookup now k ss) ≡ none) where
+    pub exset-absent : (s : Set) → execute f now ss (under k (exset (setOn (changed (raise (some n)) (s .terms)) s))) ≡ execute f now ss (under k (exset (setOn (changed (raise none) (s .terms)) s)))
+    unfolding execute write put
+    exset-absent s = rw e
 
-    pub exincrby-absent : (z : ℤ) (x : Expire) (min max : Option ℤ) (nn w : Bool)
-        → execute f now ss (exincrby k z p (raise (some n)) x min max nn w) ≡ execute f now ss (exincrby k z p (raise none) x min max nn w)
-    exincrby-absent z x min max nn w =
-        on-found (exincrby k z p (raise (some n)) x min max nn w) none e ∙ sym (on-found (exincrby k z p (raise none) x min max nn w) none e)
+    pub exincrby-absent : (i : Increment)
+        → execute f now ss (under k (exincrby (incrementOn (changed (raise (some n)) (i .terms)) i))) ≡ execute f now ss (under k (exincrby (incrementOn (changed (raise none) (i .terms)) i)))
+    unfolding execute write put total
+    exincrby-absent i = rw e
 
-    pub exjoin-absent : (end : End) (v : List ℕ) → execute f now ss (exjoin end k v p (raise (some n))) ≡ execute f now ss (exjoin end k v p (raise none))
-    exjoin-absent end v = on-found (exjoin end k v p (raise (some n))) none e ∙ sym (on-found (exjoin end k v p (raise none)) none e)
-
-  -- ---- a version at its top is refused and never wraps
-
-  pub top-refused : (ver : Option ℕ) (o : Found) → versionLimit ≤ suc (o .rec .version) → versionAfter (raise ver) (some o) ≡ refuse 15
-  top-refused ver o h = rw (le-ltb (suc (o .rec .version)) versionLimit h)
+    pub exjoin-absent : (j : Join) → execute f now ss (under k (exjoin (joinOn (changed (raise (some n)) (j .terms)) j))) ≡ execute f now ss (under k (exjoin (joinOn (changed (raise none) (j .terms)) j)))
+    unfolding execute write put
+    exjoin-absent j = rw e
 
   -- ---- a write to a live record raises its version by one, whatever text it stores
 
@@ -63,55 +72,56 @@ module _ (f : Form) (now : ℕ) (ss : List Slot) where
   Stores n (store i empty r) = ⊥
   Stores n (store i (used q) r) = q .version ≡ n
 
-  abbrev pub Any : ℕ → Type 0
-  Any n = Unit {0}
-
   -- the version that a write stores is the one after the change
-  write-version : (k : List ℕ) (o : Option Found) (wr : Write) (n : ℕ) → Comes Any (λ m. m ≡ n) (versionAfter (wr .change) o)
-      → Comes Any (Stores n) (write f now ss k o wr)
-  write-version k o wr n h =
-      by-check Any (Stores n) 12 (agrees (wr .change) o) _ tt λ h12.
-      by-step Any (Stores n) (λ new. Unit {0}) (wr .value (valueIn o)) _ (any (wr .value (valueIn o))) λ new u.
-      by-step Any (Stores n) (λ m. m ≡ n) (versionAfter (wr .change) o) _ h λ m e.
-      by-check Any (Stores n) 16 (leb (length (new .text)) (f .valueLimit)) _ tt λ h16.
-      by-given Any (Stores n) 17 (placeOf f now ss k o) _ tt λ i h17. e
-    where
-      any : (x : Checked New) → Comes Any (λ new. Unit {0}) x
-      any (refuse m) = tt
-      any (ok new) = tt
+  write-version : (l : Lookup) (slot : Option ℕ) (t : Terms) (g : Option ℕ) (make : Option (List ℕ) → Checked New) (n : ℕ)
+      → Comes Any (λ m. m ≡ n) (versionAfter (t .change) (liveRecord l)) → Comes Any (Stores n) (write f k l slot t g make)
+  unfolding write put
+  write-version l slot t g make n h =
+      by-next Any (Stores n) (make (Option·map (λ r. r .value) (liveRecord l))) _ (λ m. tt) λ new.
+      by-step Any (Stores n) (λ p. p .rec .version ≡ n) (put f k l slot t g (new .text)) _
+      (by-step Any (λ p. p .rec .version ≡ n) (λ m. m ≡ n) (versionAfter (t .change) (liveRecord l)) _ h λ m e.
+      by-check Any (λ p. p .rec .version ≡ n) 16 (leb (length (new .text)) (f .valueLimit)) _ tt λ h16.
+      by-given Any (λ p. p .rec .version ≡ n) 17 slot _ tt λ i h17. e)
+      λ p e. e
 
-  rises : (v : ℕ) → Comes Any (λ m. m ≡ suc v) (oneHigher v)
-  rises v = by-check Any (λ m. m ≡ suc v) 15 (ltb (suc v) versionLimit) (ok (suc v)) tt λ h15. refl
+  -- the change of a write without ABS
+  abbrev pub Raises : Change → Type 0
+  Raises c = (ver : Option ℕ) × (c ≡ raise ver)
 
-  stores-or-nil : (n : ℕ) (b : Bool) (x : Checked Effect) → Comes Any (Stores n) x → Comes Any (Stores n) (orNil b x)
-  stores-or-nil n true x h = h
-  stores-or-nil n false x h = tt
+  rises : (c : Change) (r : Record) → Raises c → Comes Any (λ m. m ≡ suc (r .version)) (versionAfter c (some r))
+  rises c r h =
+      rw (h .1) (by-check Any (λ m. m ≡ suc (r .version)) 15 (ltb (suc (r .version)) versionLimit) (ok (suc (r .version))) tt λ h15. refl)
 
-  module _ (k : List ℕ) (o : Found) (e : findLive now k ss ≡ some o) where
-    pub exset-raises : (v : List ℕ) (p : Presence) (ver : Option ℕ) (x : Expire) (g : ℕ) (w : Bool)
-        → Comes Any (Stores (suc (o .rec .version))) (execute f now ss (exset k v p (raise ver) x g w))
-    exset-raises v p ver x g w =
-        rw (on-found (exset k v p (raise ver) x g w) (some o) e)
-        (stores-or-nil (suc (o .rec .version)) (allowed p (some o)) _
-        (write-version k (some o) (setting v (raise ver) x g w) (suc (o .rec .version)) (rises (o .rec .version))))
+  module _ (p : Placed) (e : lookup now k ss ≡ liveAt p) where
+    abbrev Higher : Checked Effect → Type 0
+    Higher = Comes Any (Stores (suc (p .rec .version)))
 
-    pub exincrby-raises : (z : ℤ) (p : Presence) (ver : Option ℕ) (x : Expire) (min max : Option ℤ) (nn w : Bool)
-        → Comes Any (Stores (suc (o .rec .version))) (execute f now ss (exincrby k z p (raise ver) x min max nn w))
-    exincrby-raises z p ver x min max nn w =
-        rw (on-found (exincrby k z p (raise ver) x min max nn w) (some o) e)
-        (stores-or-nil (suc (o .rec .version)) (allowed p (some o)) _
-        (write-version k (some o) (counting z (raise ver) x min max nn w) (suc (o .rec .version)) (rises (o .rec .version))))
+    raised : (t : Terms) (g : Option ℕ) (make : Option (List ℕ) → Checked New) → Raises (t .change) → Higher (write f k (liveAt p) (some (p .at)) t g make)
+    raised t g make h = write-version (liveAt p) (some (p .at)) t g make (suc (p .rec .version)) (rises (t .change) (p .rec) h)
 
-    pub exjoin-raises : (end : End) (v : List ℕ) (p : Presence) (ver : Option ℕ)
-        → Comes Any (Stores (suc (o .rec .version))) (execute f now ss (exjoin end k v p (raise ver)))
-    exjoin-raises end v p ver =
-        rw (on-found (exjoin end k v p (raise ver)) (some o) e)
-        (stores-or-nil (suc (o .rec .version)) (allowed p (some o)) _
-        (write-version k (some o) (joining end v (raise ver)) (suc (o .rec .version)) (rises (o .rec .version))))
+    or-nil : (b : Bool) (x : Checked Effect) → Higher x → Higher (orNil b x)
+    or-nil true x h = h
+    or-nil false x h = tt
 
-    pub excas-raises : (v : List ℕ) (n : ℕ) (x : Expire) → Comes Any (Stores (suc (o .rec .version))) (execute f now ss (excas k v n x))
-    excas-raises v n x = rw (on-found (excas k v n x) (some o) e) (either (eqb n (o .rec .version)))
-      where
-        either : (b : Bool) → Comes Any (Stores (suc (o .rec .version))) (cond b (write f now ss k (some o) (swapping v x)) (ok (answer (staleReply (o .rec)))))
-        either true = write-version k (some o) (swapping v x) (suc (o .rec .version)) (rises (o .rec .version))
-        either false = tt
+    admitted : (t : Terms) (x : Checked Effect) → Higher x → Higher (admit t (some (p .rec)) x)
+    admitted t x h =
+        or-nil (allowed (t .presence) (some (p .rec))) _
+        (by-check Any (Stores (suc (p .rec .version))) 12 (agrees (t .change) (some (p .rec))) x tt λ h12. h)
+
+    pub exset-raises : (s : Set) → Raises (s .terms .change) → Higher (execute f now ss (under k (exset s)))
+    exset-raises s h = rw (looked-up (exset s) (liveAt p) e) (admitted (s .terms) _ (raised _ _ _ h))
+
+    pub exincrby-raises : (i : Increment) → Raises (i .terms .change) → Higher (execute f now ss (under k (exincrby i)))
+    exincrby-raises i h = rw (looked-up (exincrby i) (liveAt p) e) (admitted (i .terms) _ (raised _ _ _ h))
+
+    pub exjoin-raises : (j : Join) → Raises (j .terms .change) → Higher (execute f now ss (under k (exjoin j)))
+    exjoin-raises j h = rw (looked-up (exjoin j) (liveAt p) e) (admitted (j .terms) _ (raised _ _ _ h))
+
+    pub excas-raises : (v : List ℕ) (n : ℕ) (x : Expire) → Higher (execute f now ss (under k (excas v n x)))
+    excas-raises v n x =
+        rw (looked-up (excas v n x) (liveAt p) e) (by-cond Higher (eqb n (p .rec .version)) _ _ (raised _ _ _ (none, refl)) tt)
+
+-- ---- a version at its top is refused and never wraps
+
+pub top-refused : (ver : Option ℕ) (r : Record) → versionLimit ≤ suc (r .version) → versionAfter (raise ver) (some r) ≡ refuse 15
+top-refused ver r h = rw (le-ltb (suc (r .version)) versionLimit h)

@@ -1,28 +1,29 @@
 -- What a command does: it writes at most one slot, one that its key may claim, with a record of that key in range or zeros, and its reply
 -- fits; a refusal is by 12 to 17.
-use mathlib.Core.Path.{_≡_, refl, sym, ap, _∙_, subst}
-use mathlib.Core.Bool.{Bool, true, false, cond, _&&_}
-use mathlib.Core.List.{List, [], _∷_}
-use mathlib.Core.Option.{Option, none, some}
+use mathlib.Core.Path.{_≡_, refl, subst}
+use mathlib.Core.Bool.{Bool, true, false, _&&_}
+use mathlib.Core.List.{List}
+use mathlib.Core.Option.{Option, none, some, Option·map}
 use Prim.Native.Nat.{ℕ, suc, _≤_, _<_}
 use native.Mathlib.Omega.{arith}
-use lib.ListN.{length, getElem?}
+use lib.ListN.{length}
 use lib.Dec.{leb, ltb, eqb}
 use lib.IntN.{ℤ, pos, negsuc, _+ℤ_}
-use lib.Signed.{nonNeg}
 use borrow.Author.Tests.{leb-true, ltb-true}
-use Rattle.model.specs.Checked.{Checked, refuse, ok}
+use Rattle.model.specs.Checked.{Checked, ok}
 use Rattle.model.specs.Number.{versionLimit, flagsLimit, isSigned, readSigned}
-use Rattle.model.specs.Table.{Form, Record, Slot, empty, used, timeLimit, keyLimit, distinct, live, Found, findLive, slotFor}
+use Rattle.model.specs.Table.{Form, Record, Slot, empty, used, timeLimit, keyLimit, distinct}
+use Rattle.model.specs.Search.{Placed, Lookup, liveAt, expiredAt, absent, lookup, liveRecord, slotFor}
 use Rattle.model.specs.Resp.{Reply, one, nil}
-use Rattle.model.specs.Command.{Change, raise, set, Expire, clear, keep, at, Command, exset, exget, exsetver, exincrby, excas, excad, exjoin, exgae, del}
-use Rattle.model.specs.Execute.{Effect, answer, store, agrees, oneHigher, versionAfter, expiryAfter, flagsAfter, New, counter, notBelow, notAbove, floored, sum, counted, Write, setting, counting, swapping, joining, valueIn, placeOf, write, allowed, orNil, onLive, withVersion, withExpiry, executeOn, keyOf, execute, number, setReply, getReply, countReply, swapReply, staleReply}
-use Rattle.model.proofs.Basics.{and-left}
+use Rattle.model.specs.Command.{Change, raise, set, Expire, clear, keep, at, Terms, Increment, Action, exset, exget, exsetver, exincrby, excas, excad, exjoin, exgae, del, Command}
+use Rattle.model.specs.Parse.{wordAt}
+use Rattle.model.specs.Execute.{Effect, answer, store, agrees, versionAfter, expiryAfter, flagsAfter, New, counter, notBelow, notAbove, floored, total, counted, swapping, put, write, writeIf, allowed, orNil, onLive, act, execute, number}
+use Rattle.model.proofs.Basics.{and-left, by-cond}
 use Rattle.model.proofs.Records.{InRange, Kept}
 use Rattle.model.proofs.Tables.{All, all-at}
-use Rattle.model.proofs.Search.{Hit, live-hit, Claim, hit-claim, slotFor-claim, NoOther, hit-sole, slotFor-sole, Under}
-use Rattle.model.proofs.Steps.{Comes, by-check, by-given, by-step}
-use Rattle.model.proofs.Commands.{ChangeOk, ExpireOk, ArgumentsOk, Known}
+use Rattle.model.proofs.Search.{Hit, LiveHit, lookup-hit, Claim, hit-claim, slotFor-claim, NoOther, hit-sole, slotFor-sole, Under}
+use Rattle.model.proofs.Steps.{Comes, Any, by-check, by-given, of-given, by-step}
+use Rattle.model.proofs.Commands.{ChangeOk, ExpireOk, TermsOk, ActionOk, Known}
 use Rattle.model.proofs.Replies.{Roomy, Fits, number-fits, nil-fits, minusOne-fits, set-fits, get-fits, count-fits, swap-fits, stale-fits}
 
 -- the numbers of the refusals in executing
@@ -40,31 +41,39 @@ pub record Written (f : Form) (now : ℕ) (k : List ℕ) (ss : List Slot) (j : �
 -- ---- version, expiry and flags in range
 
 module _ (f : Form) where
-  abbrev FoundOk : Option Found → Type 0
-  FoundOk none = Unit {0}
-  FoundOk (some o) = InRange f (o .rec)
+  abbrev OldOk : Option Record → Type 0
+  OldOk none = Unit {0}
+  OldOk (some r) = InRange f r
 
-  version-after : (c : Change) (o : Option Found) → ChangeOk c → Comes Executing (λ n. n < versionLimit) (versionAfter c o)
-  version-after (set n) o h = h
+  version-after : (c : Change) (old : Option Record) → ChangeOk c → Comes Executing (λ n. n < versionLimit) (versionAfter c old)
+  version-after (set n) old h = h
   version-after (raise e) none h = omega arith
-  version-after (raise e) (some o) h =
-      by-check Executing (λ n. n < versionLimit) 15 (ltb (suc (o .rec .version)) versionLimit) (ok (suc (o .rec .version))) (omega arith) λ b.
-      ltb-true (suc (o .rec .version)) versionLimit b
+  version-after (raise e) (some r) h =
+      by-check Executing (λ n. n < versionLimit) 15 (ltb (suc (r .version)) versionLimit) (ok (suc (r .version))) (omega arith) (ltb-true _ _)
 
-  expiry-after : (e : Expire) (o : Option Found) → ExpireOk e → FoundOk o → expiryAfter e o ≤ timeLimit
-  expiry-after clear o h g = omega arith
-  expiry-after (at n) o h g = h
+  expiry-after : (e : Expire) (old : Option Record) → ExpireOk e → OldOk old → expiryAfter e old ≤ timeLimit
+  expiry-after clear old h g = omega arith
+  expiry-after (at n) old h g = h
   expiry-after keep none h g = omega arith
-  expiry-after keep (some o) h g = g .expiry-to
+  expiry-after keep (some r) h g = g .expiry-to
 
   abbrev FlagsOk : Option ℕ → Type 0
   FlagsOk none = Unit {0}
   FlagsOk (some g) = g < flagsLimit
 
-  flags-after : (g : Option ℕ) (o : Option Found) → FlagsOk g → FoundOk o → flagsAfter g o < flagsLimit
-  flags-after (some g) o h q = h
+  flags-after : (g : Option ℕ) (old : Option Record) → FlagsOk g → OldOk old → flagsAfter g old < flagsLimit
+  flags-after (some g) old h q = h
   flags-after none none h q = omega arith
-  flags-after none (some o) h q = q .flags-to
+  flags-after none (some r) h q = q .flags-to
+
+-- the version that is put is in range
+pub put-version : (f : Form) (k : List ℕ) (l : Lookup) (slot : Option ℕ) (t : Terms) (g : Option ℕ) (v : List ℕ) → ChangeOk (t .change)
+    → Comes Executing (λ p. p .rec .version < versionLimit) (put f k l slot t g v)
+unfolding put
+put-version f k l slot t g v h =
+    by-step Executing (λ p. p .rec .version < versionLimit) (λ n. n < versionLimit) (versionAfter (t .change) (liveRecord l)) _ (version-after f (t .change) (liveRecord l) h) λ n hn.
+    by-check Executing (λ p. p .rec .version < versionLimit) 16 (leb (length v) (f .valueLimit)) _ (omega arith) λ h16.
+    by-given Executing (λ p. p .rec .version < versionLimit) 17 slot _ (omega arith) λ i h17. hn
 
 -- a record in range with another version and expiry
 renumbered : (f : Form) (r : Record) (n x : ℕ) → InRange f r → n < versionLimit → x ≤ timeLimit
@@ -78,6 +87,29 @@ renumbered f r n x h hn hx = record {
   expiry-to = hx;
 }
 
+-- ---- EXINCRBY's number
+
+floored-signed : (nn : Bool) (z : ℤ) → isSigned z ≡ true → isSigned (floored nn z) ≡ true
+floored-signed false z h = h
+floored-signed true (pos n) h = h
+floored-signed true (negsuc n) h = refl
+
+abbrev pub Signed : ℤ → Type 0
+Signed z = isSigned z ≡ true
+
+pub total-signed : (i : Increment) (s : Option (List ℕ)) → Comes Executing Signed (total i s)
+unfolding total
+total-signed i s =
+    by-step Executing Signed Any (counter s) _ (start s) λ a u.
+    by-check Executing Signed 14 (isSigned (a +ℤ i .by) && notBelow (i .min) (a +ℤ i .by) && notAbove (i .max) (a +ℤ i .by)) _ (omega arith) λ h14.
+    floored-signed (i .nonNegative) (a +ℤ i .by)
+    (and-left (isSigned (a +ℤ i .by)) (notBelow (i .min) (a +ℤ i .by))
+    (and-left (isSigned (a +ℤ i .by) && notBelow (i .min) (a +ℤ i .by)) (notAbove (i .max) (a +ℤ i .by)) h14))
+  where
+    start : (s : Option (List ℕ)) → Comes Executing Any (counter s)
+    start none = tt
+    start (some v) = of-given Executing Any 13 (readSigned v) (omega arith) λ z e. tt
+
 -- ---- the commands, over slots in range with distinct keys
 
 module _ (f : Form) (w : Roomy f) (now : ℕ) (ss : List Slot) (hk : All (Kept f) ss) (d : distinct ss ≡ true) where
@@ -88,126 +120,108 @@ module _ (f : Form) (w : Roomy f) (now : ℕ) (ss : List Slot) (hk : All (Kept f
   abbrev NewFits : New → Type 0
   NewFits new = (n : ℕ) → n < versionLimit → Fits f w (new .reply n)
 
-  found-ok : (k : List ℕ) (o : Found) → Hit k ss o → InRange f (o .rec)
-  found-ok k o h = all-at (Kept f) ss (o .at) (used (o .rec)) hk (h .there)
-
   module _ (k : List ℕ) (lo : 1 ≤ length k) (hi : length k ≤ keyLimit) where
-    -- what is found under k, if anything
-    abbrev HitsAll : Option Found → Type 0
-    HitsAll none = Unit {0}
-    HitsAll (some o) = Hit k ss o
+    found-ok : (p : Placed) → Hit k ss p → InRange f (p .rec)
+    found-ok p h = all-at (Kept f) ss (p .at) (used (p .rec)) hk (h .there)
 
-    hits-ok : (o : Option Found) → HitsAll o → FoundOk f o
-    hits-ok none h = tt
-    hits-ok (some o) h = found-ok k o h
+    -- the slot of the record found under k
+    own : (p : Placed) → Hit k ss p → (s : Slot) → Kept f s → Under k s → Written f now k ss (p .at) s
+    own p h s ks us = record { claim = hit-claim now k ss p h; kept = ks; under = us; sole = hit-sole k ss (p .at) (p .rec) d (h .there) (h .key) }
 
-    placed : (o : Option Found) → HitsAll o → (i : ℕ) → placeOf f now ss k o ≡ some i → (s : Slot) → Kept f s → Under k s → Written f now k ss i s
-    placed none h i e s ks us = record { claim = slotFor-claim now k ss i e; kept = ks; under = us; sole = slotFor-sole now k ss i d e }
-    placed (some o) h i e s ks us =
-        subst (λ (j : ℕ). Written f now k ss j s) (some-eq′ e)
-        (record { claim = hit-claim now k ss o h; kept = ks; under = us; sole = hit-sole k ss (o .at) (o .rec) d (h .there) (h .key) })
+    abbrev l : Lookup
+    l = lookup now k ss
+
+    abbrev slot : Option ℕ
+    slot = slotFor now ss l
+
+    old-ok : OldOk f (liveRecord l)
+    old-ok = go l (lookup-hit now k ss)
       where
-        some-eq′ : some (o .at) ≡ some i → o .at ≡ i
-        some-eq′ q = cc
+        go : (l : Lookup) → LiveHit k ss l → OldOk f (liveRecord l)
+        go (liveAt p) h = found-ok p h
+        go (expiredAt i) h = tt
+        go absent h = tt
 
-    fine-write : (o : Option Found) → HitsAll o → (wr : Write) → ChangeOk (wr .change) → ExpireOk (wr .expire) → FlagsOk f (wr .flags)
-        → Comes Executing NewFits (wr .value (valueIn o)) → Comes Executing (Fine k) (write f now ss k o wr)
-    fine-write o h wr hc he hg hv =
-        by-check Executing (Fine k) 12 (agrees (wr .change) o) _ (omega arith) λ h12.
-        by-step Executing (Fine k) NewFits (wr .value (valueIn o)) _ hv λ new hn.
-        by-step Executing (Fine k) (λ n. n < versionLimit) (versionAfter (wr .change) o) _ (version-after f (wr .change) o hc) λ n hb.
-        by-check Executing (Fine k) 16 (leb (length (new .text)) (f .valueLimit)) _ (omega arith) λ h16.
-        by-given Executing (Fine k) 17 (placeOf f now ss k o) _ (omega arith) λ i h17. (
-          placed o h i h17
-              (used (record { key = k; value = new .text; flags = flagsAfter (wr .flags) o; version = n; expiry = expiryAfter (wr .expire) o }))
+    on-live : (r : Reply) (g : Placed → Checked Effect) → Fits f w r → ((p : Placed) → Hit k ss p → Comes Executing (Fine k) (g p))
+        → Comes Executing (Fine k) (onLive l r g)
+    on-live r g hr hg = go l (lookup-hit now k ss)
+      where
+        go : (l : Lookup) → LiveHit k ss l → Comes Executing (Fine k) (onLive l r g)
+        go (liveAt p) h = hg p h
+        go (expiredAt i) h = hr
+        go absent h = hr
+
+    -- the slot that a write takes
+    taken : (i : ℕ) → slot ≡ some i → (s : Slot) → Kept f s → Under k s → Written f now k ss i s
+    taken i q s ks us = record { claim = slotFor-claim now k ss i q; kept = ks; under = us; sole = slotFor-sole now k ss i d q }
+
+    abbrev PutFine : Placed → Type 0
+    PutFine p = Written f now k ss (p .at) (used (p .rec)) × (p .rec .version < versionLimit)
+
+    fine-put : (t : Terms) (g : Option ℕ) (v : List ℕ) → TermsOk t → FlagsOk f g
+        → Comes Executing PutFine (put f k l slot t g v)
+    unfolding put
+    fine-put t g v ht hg =
+        by-step Executing PutFine (λ n. n < versionLimit) (versionAfter (t .change) (liveRecord l)) _ (version-after f (t .change) (liveRecord l) (ht .change)) λ n hn.
+        by-check Executing PutFine 16 (leb (length v) (f .valueLimit)) _ (omega arith) λ h16.
+        by-given Executing PutFine 17 slot _ (omega arith) λ i h17. (
+          taken i h17 _
               (record {
                 key-from = lo;
                 key-to = hi;
-                value-to = leb-true (length (new .text)) (f .valueLimit) h16;
-                flags-to = flags-after f (wr .flags) o hg (hits-ok o h);
-                version-to = hb;
-                expiry-to = expiry-after f (wr .expire) o he (hits-ok o h);
+                value-to = leb-true (length v) (f .valueLimit) h16;
+                flags-to = flags-after f g (liveRecord l) hg old-ok;
+                version-to = hn;
+                expiry-to = expiry-after f (t .expire) (liveRecord l) (ht .expire) old-ok;
               })
               refl,
-          hn n hb,
+          hn,
         )
 
-    or-nil : (b : Bool) (e : Checked Effect) → Comes Executing (Fine k) e → Comes Executing (Fine k) (orNil b e)
-    or-nil true e h = h
-    or-nil false e h = nil-fits f w
+    fine-write : (t : Terms) (g : Option ℕ) (make : Option (List ℕ) → Checked New) → TermsOk t → FlagsOk f g
+        → ((s : Option (List ℕ)) → Comes Executing NewFits (make s)) → Comes Executing (Fine k) (write f k l slot t g make)
+    unfolding write
+    fine-write t g make ht hg hv =
+        by-step Executing (Fine k) NewFits (make (Option·map (λ r. r .value) (liveRecord l))) _ (hv _) λ new hn.
+        by-step Executing (Fine k) PutFine (put f k l slot t g (new .text)) _ (fine-put t g (new .text) ht hg) λ p hp.
+        (hp .0, hn (p .rec .version) (hp .1))
 
-    on-live : (o : Option Found) → HitsAll o → (r : Reply) (g : Found → Checked Effect) → Fits f w r → ((q : Found) → o ≡ some q → Hit k ss q → Comes Executing (Fine k) (g q))
-        → Comes Executing (Fine k) (onLive o r g)
-    on-live none h r g hr hg = hr
-    on-live (some q) h r g hr hg = hg q refl h
+    or-nil : (b : Bool) (x : Checked Effect) → Comes Executing (Fine k) x → Comes Executing (Fine k) (orNil b x)
+    or-nil true x h = h
+    or-nil false x h = nil-fits f w
 
-    -- a record found under k with other fields
-    rewritten : (o : Found) → Hit k ss o → (r : Record) → r .key ≡ o .rec .key → InRange f r → Written f now k ss (o .at) (used r)
-    rewritten o h r e hr =
-        record { claim = hit-claim now k ss o h; kept = hr; under = e ∙ h .key; sole = hit-sole k ss (o .at) (o .rec) d (h .there) (h .key) }
+    fine-write-if : (t : Terms) (g : Option ℕ) (make : Option (List ℕ) → Checked New) → TermsOk t → FlagsOk f g
+        → ((s : Option (List ℕ)) → Comes Executing NewFits (make s)) → Comes Executing (Fine k) (writeIf f k l slot t g make)
+    fine-write-if t g make ht hg hv =
+        or-nil (allowed (t .presence) (liveRecord l)) _
+        (by-check Executing (Fine k) 12 (agrees (t .change) (liveRecord l)) _ (omega arith) λ h12. fine-write t g make ht hg hv)
 
-    emptied : (o : Found) → Hit k ss o → Written f now k ss (o .at) empty
-    emptied o h = record { claim = hit-claim now k ss o h; kept = tt; under = tt; sole = hit-sole k ss (o .at) (o .rec) d (h .there) (h .key) }
+    fine-act : (ws : List (List ℕ)) (a : Action) → ActionOk f ws a → Comes Executing (Fine k) (act f k l slot a)
+    fine-act ws (exset s) h = fine-write-if (s .terms) (some (s .flags)) _ (h .1) (h .2) λ v. set-fits f w (s .withVersion)
+    fine-act ws (exget b) h = on-live (one nil) _ (nil-fits f w) λ p q. get-fits f w b (p .rec) (found-ok p q)
+    fine-act ws (exsetver n) h =
+        on-live (one (number 0)) _ (number-fits f w 0 (omega arith)) λ p q.
+        let old = found-ok p q in
+        (own p q _ (renumbered f (p .rec) n (p .rec .expiry) old h (old .expiry-to)) (q .key), number-fits f w 1 (omega arith))
+    fine-act ws (exincrby i) h =
+        fine-write-if (i .terms) none (counted i) h tt λ s.
+        by-step Executing NewFits Signed (total i s) _ (total-signed i s) λ z hz n. count-fits f w (i .withVersion) z n hz
+    fine-act ws (excas v n x) h =
+        on-live _ _ (minusOne-fits f w) λ p q.
+        by-cond (Comes Executing (Fine k)) (eqb n (p .rec .version)) _ _ (fine-write (swapping x) none _ (record { change = tt; expire = h .1 }) tt λ s. swap-fits f w)
+        (stale-fits f w (p .rec) (found-ok p q))
+    fine-act ws (excad n) h =
+        on-live _ _ (minusOne-fits f w) λ p q.
+        by-cond (Fine k) (eqb n (p .rec .version)) _ _ (own p q empty tt tt, number-fits f w 1 (omega arith)) (number-fits f w 0 (omega arith))
+    fine-act ws (exjoin j) h = fine-write-if (j .terms) none _ (h .1) tt λ s. number-fits f w
+    fine-act ws (exgae x) h =
+        on-live (one nil) _ (nil-fits f w) λ p q.
+        let old = found-ok p q in
+        (own p q _ (renumbered f (p .rec) (p .rec .version) _ old (old .version-to) (expiry-after f x (some (p .rec)) h old)) (q .key), get-fits f w true (p .rec) old)
+    fine-act ws del h = on-live (one (number 0)) _ (number-fits f w 0 (omega arith)) λ p q. (own p q empty tt tt, number-fits f w 1 (omega arith))
 
-    floored-signed : (nn : Bool) (z : ℤ) → isSigned z ≡ true → isSigned (floored nn z) ≡ true
-    floored-signed false z h = h
-    floored-signed true (pos n) h = h
-    floored-signed true (negsuc n) h = refl
-
-    counted-fits : (z : ℤ) (min max : Option ℤ) (nn b : Bool) (old : Option (List ℕ)) → Comes Executing NewFits (counted z min max nn b old)
-    counted-fits z min max nn b old =
-        by-step Executing NewFits (λ a. Unit {0}) (counter old) _ (start old) λ a u.
-        by-step Executing NewFits (λ t. isSigned t ≡ true) (sum a z min max nn) _
-        (by-check Executing (λ t. isSigned t ≡ true) 14 (isSigned (a +ℤ z) && notBelow min (a +ℤ z) && notAbove max (a +ℤ z)) (ok (floored nn (a +ℤ z))) (omega arith) λ h14.
-        floored-signed nn (a +ℤ z) (and-left (isSigned (a +ℤ z)) (notBelow min (a +ℤ z)) (and-left (isSigned (a +ℤ z) && notBelow min (a +ℤ z)) (notAbove max (a +ℤ z)) h14)))
-        λ t ht n hn. count-fits f w b t n ht hn
-      where
-        start : (old : Option (List ℕ)) → Comes Executing (λ a. Unit {0}) (counter old)
-        start none = tt
-        start (some v) = read (readSigned v)
-          where
-            read : (o : Option ℤ) → Comes Executing (λ a. Unit {0}) (Rattle.model.specs.Checked.given 13 o)
-            read none = omega arith
-            read (some z) = tt
-
-    fine-on : (o : Option Found) → HitsAll o → (c : Command) → keyOf c ≡ k → ArgumentsOk c → Comes Executing (Fine k) (executeOn f now ss o c)
-    fine-on o h (exset key v p c e g b) q a =
-        subst (λ (y : List ℕ). Comes Executing (Fine k) (executeOn f now ss o (exset y v p c e g b))) (sym q)
-        (or-nil (allowed p o) _ (fine-write o h (setting v c e g b) (a .0) (a .1) (a .2) (set-fits f w b)))
-    fine-on o h (exget key b) q a = on-live o h (one nil) _ (nil-fits f w) λ o e h. get-fits f w b (o .rec) (found-ok k o h)
-    fine-on o h (exsetver key n) q a =
-        on-live o h (one (number 0)) _ (number-fits f w 0 (omega arith)) λ o e h.
-        let old = found-ok k o h in
-        (rewritten o h (withVersion n (o .rec)) refl (renumbered f (o .rec) n (o .rec .expiry) old a (old .expiry-to)), number-fits f w 1 (omega arith))
-    fine-on o h (exincrby key z p c e min max nn b) q a =
-        subst (λ (y : List ℕ). Comes Executing (Fine k) (executeOn f now ss o (exincrby y z p c e min max nn b))) (sym q)
-        (or-nil (allowed p o) _ (fine-write o h (counting z c e min max nn b) (a .0) (a .1) tt (counted-fits z min max nn b (valueIn o))))
-    fine-on o h (excas key v n e) q a =
-        subst (λ (y : List ℕ). Comes Executing (Fine k) (executeOn f now ss o (excas y v n e))) (sym q)
-        (on-live o h _ _ (minusOne-fits f w) λ r e h′. swapped r (eqb n (r .rec .version)) h′)
-      where
-        swapped : (r : Found) (b : Bool) → Hit k ss r → Comes Executing (Fine k)
-            (cond b (write f now ss k o (swapping v e)) (ok (answer (staleReply (r .rec)))))
-        swapped r true h′ = fine-write o h (swapping v e) tt a tt (swap-fits f w)
-        swapped r false h′ = stale-fits f w (r .rec) (found-ok k r h′)
-    fine-on o h (excad key n) q a = on-live o h _ _ (minusOne-fits f w) λ r e h. dropped r (eqb n (r .rec .version)) h
-      where
-        dropped : (r : Found) (b : Bool) → Hit k ss r → Fine k (cond b (store (r .at) empty (one (number 1))) (answer (one (number 0))))
-        dropped r true h = (emptied r h, number-fits f w 1 (omega arith))
-        dropped r false h = number-fits f w 0 (omega arith)
-    fine-on o h (exjoin e key v p c) q a =
-        subst (λ (y : List ℕ). Comes Executing (Fine k) (executeOn f now ss o (exjoin e y v p c))) (sym q)
-        (or-nil (allowed p o) _ (fine-write o h (joining e v c) a tt tt (number-fits f w)))
-    fine-on o h (exgae key x) q a =
-        on-live o h (one nil) _ (nil-fits f w) λ o e h.
-        let old = found-ok k o h in
-        (rewritten o h (withExpiry x (o .rec)) refl (renumbered f (o .rec) (o .rec .version) x old (old .version-to) a), get-fits f w true (o .rec) old)
-    fine-on o h (del key) q a = on-live o h (one (number 0)) _ (number-fits f w 0 (omega arith)) λ o e h. (emptied o h, number-fits f w 1 (omega arith))
-
-  pub execute-fine : (k : List ℕ) (c : Command) → Known f k c → Comes Executing (Fine k) (execute f now ss c)
+  pub execute-fine : (ws : List (List ℕ)) (c : Command) → Known f ws c → Comes Executing (Fine (wordAt 1 ws)) (execute f now ss c)
   unfolding execute
-  execute-fine k c h = fine-on k (h .key-from) (h .key-to) (findLive now (keyOf c) ss) (hits (findLive now (keyOf c) ss) refl) c (h .key) (h .arguments)
-    where
-      hits : (o : Option Found) → findLive now (keyOf c) ss ≡ o → HitsAll k (h .key-from) (h .key-to) o
-      hits none e = tt
-      hits (some o) e = subst (λ (y : List ℕ). Hit y ss o) (h .key) (live-hit now (keyOf c) ss o e)
+  execute-fine ws c h =
+      subst (λ (k : List ℕ). Comes Executing (Fine k) (execute f now ss c)) (h .key)
+      (fine-act (c .key) (h .key-from) (h .key-to) ws (c .action) (h .action))

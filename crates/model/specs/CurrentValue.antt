@@ -2,16 +2,17 @@
 use Prim.Native.Nat.{ℕ, _+_, _*_}
 use mathlib.Core.Bool.{Bool, true, false, cond}
 use mathlib.Core.List.{List}
-use mathlib.Core.Option.{Option, none, some}
 use lib.ListN.{length, take}
-use lib.Dec.{leb, eqb}
+use lib.Dec.{eqb}
 use Rattle.model.specs.Bytes.{part}
-use Rattle.model.specs.Checked.{Checked, refuse, ok, check, given, _>>=_, _>>_}
-use Rattle.model.specs.Table.{Form, Found, recordSize, valueAt, timeLimit, findLive}
-use Rattle.model.specs.Resp.{arrayMark, bulkMark, line, bulksBytes, decode}
-use Rattle.model.specs.Command.{Command, exset, exget, exsetver, exincrby, excas, excad, exjoin, exgae, del, wordAt, parse}
-use Rattle.model.specs.Execute.{keyOf, execute}
-use Rattle.model.specs.Call.{goodTable}
+use Rattle.model.specs.Checked.{Checked, refuse, ok, _>>=_, _>>_}
+use Rattle.model.specs.Table.{Form, Slot, recordSize, valueAt}
+use Rattle.model.specs.Search.{Placed, Lookup, liveAt, expiredAt, absent, lookup}
+use Rattle.model.specs.Resp.{arrayMark, bulkMark, line, bulksBytes}
+use Rattle.model.specs.Gate.{gate}
+use Rattle.model.specs.Command.{Action, exset, exget, exsetver, exincrby, excas, excad, exjoin, exgae, del, Command}
+use Rattle.model.specs.Parse.{wordAt, parse}
+use Rattle.model.specs.Execute.{executeOn}
 
 -- no value, or the place and length of one
 pub data Shown : Type 0 where
@@ -51,35 +52,44 @@ wordStart i ws =
     length (line arrayMark (length ws)) + length (bulksBytes (take i ws)) + length (line bulkMark (length (wordAt i ws)))
 
 -- a record's value in the table
-abbrev pub valueOf : Form → Found → Shown
-valueOf f o = inTable (o .at * recordSize f + valueAt) (length (o .rec .value))
+abbrev pub valueOf : Form → Placed → Shown
+valueOf f p = inTable (p .at * recordSize f + valueAt) (length (p .rec .value))
 
--- the value of the live record o after a command that is not refused; a command other than EXGET and EXCAS shows none
-abbrev pub shownAfter : Form → List (List ℕ) → Found → Command → Shown
-shownAfter f ws o (exget k w) = valueOf f o
-shownAfter f ws o (excas k v n e) = cond (eqb n (o .rec .version)) (inCommand (wordStart 2 ws) (length v)) (valueOf f o)
-shownAfter f ws o (exset k v p c e g w) = nothing
-shownAfter f ws o (exsetver k n) = nothing
-shownAfter f ws o (exincrby k z p c e min max nn w) = nothing
-shownAfter f ws o (excad k n) = nothing
-shownAfter f ws o (exjoin e k v p c) = nothing
-shownAfter f ws o (exgae k x) = nothing
-shownAfter f ws o (del k) = nothing
+-- the value of the live record p after an action that is not refused; one other than EXGET and EXCAS shows none
+abbrev pub shownAfter : Form → List (List ℕ) → Placed → Action → Shown
+shownAfter f ws p (exget w) = valueOf f p
+shownAfter f ws p (excas v n e) = cond (eqb n (p .rec .version)) (inCommand (wordStart 2 ws) (length v)) (valueOf f p)
+shownAfter f ws p (exset s) = nothing
+shownAfter f ws p (exsetver n) = nothing
+shownAfter f ws p (exincrby i) = nothing
+shownAfter f ws p (excad n) = nothing
+shownAfter f ws p (exjoin j) = nothing
+shownAfter f ws p (exgae e) = nothing
+shownAfter f ws p del = nothing
 
 -- a key that is not live before the command shows none
-abbrev pub shownOn : Form → List (List ℕ) → Option Found → Command → Shown
-shownOn f ws none c = nothing
-shownOn f ws (some o) c = shownAfter f ws o c
+abbrev pub shownOn : Form → List (List ℕ) → Lookup → Action → Shown
+shownOn f ws (liveAt p) a = shownAfter f ws p a
+shownOn f ws (expiredAt i) a = nothing
+shownOn f ws absent a = nothing
 
--- the tests of a call but 3, which does not arise, since there is no reply buffer
+-- from the command on: what it shows, unless it is refused
+abbrev pub showsBy : Form → (now : ℕ) → List Slot → List (List ℕ) → Lookup → Command → Checked Shown
+showsBy f now ss ws l c = do
+  executeOn f now ss l c
+  ok (shownOn f ws l (c .action))
+
+-- from the words on
+abbrev pub showsIn : Form → (now : ℕ) → List Slot → List (List ℕ) → Checked Shown
+showsIn f now ss ws = do
+  c ← parse f now ws
+  showsBy f now ss ws (lookup now (c .key) ss) c
+
+-- the tests of a call; 3 does not arise, since there is no reply buffer
 abbrev pub shows : Form → (table : List ℕ) (now : ℕ) (command : List ℕ) → Checked Shown
 shows f t now b = do
-  ss ← goodTable f t
-  check 2 (leb now timeLimit)
-  ws ← given 4 (decode b)
-  c ← parse f now ws
-  execute f now ss c
-  ok (shownOn f ws (findLive now (keyOf c) ss) c)
+  i ← gate f t now (f .replyRoom) b
+  showsIn f now (i .slots) (i .words)
 
 abbrev pub orNothing : Checked Shown → Shown
 orNothing (refuse n) = nothing

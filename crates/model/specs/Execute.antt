@@ -8,12 +8,13 @@ use lib.Dec.{leb, ltb, eqb}
 use lib.IntN.{ℤ, pos, negsuc, _+ℤ_}
 use lib.Signed.{ltZ, nonNeg}
 use Rattle.model.specs.Bytes.{text}
-use Rattle.model.specs.Checked.{Checked, refuse, ok, check, given, _>>=_, _>>_}
+use Rattle.model.specs.Checked.{Checked, ok, check, given, _>>=_, _>>_}
 use Rattle.model.specs.Number.{intText, readSigned, isSigned, versionLimit}
-use Rattle.model.specs.Table.{Form, Record, Slot, empty, used, Found, findLive, slotFor}
+use Rattle.model.specs.Table.{Form, Record, Slot, empty, used}
+use Rattle.model.specs.Search.{Placed, Lookup, liveAt, expiredAt, absent, lookup, liveRecord, slotFor}
 use Rattle.model.specs.Resp.{Scalar, simple, integer, bulk, nil, Reply, one, array}
 use Rattle.model.specs.Command.{Presence, always, ifAbsent, ifLive, Change, raise, set, Expire, clear, keep, at, End, back, front}
-use Rattle.model.specs.Command.{Command, exset, exget, exsetver, exincrby, excas, excad, exjoin, exgae, del}
+use Rattle.model.specs.Command.{Terms, Increment, Action, exset, exget, exsetver, exincrby, excas, excad, exjoin, exgae, del, Command}
 
 -- a reply, or a reply and the new contents of one slot
 pub data Effect : Type 0 where
@@ -55,14 +56,24 @@ staleReply r = array (simple (text "ERR update version is stale") ∷ bulk (r .v
 abbrev pub versionReply : ℕ → Reply
 versionReply n = one (number n)
 
--- ---- version, expiry and flags after a write; `o` is the live record with the key, if there is one
+-- ---- before a write; `old` is the live record with the key, if there is one
+
+-- NX and XX
+abbrev pub allowed : Presence → (old : Option Record) → Bool
+allowed always old = true
+allowed ifAbsent none = true
+allowed ifAbsent (some r) = false
+allowed ifLive none = false
+allowed ifLive (some r) = true
 
 -- VER against a live record's version; an absent key has none to compare
-abbrev pub agrees : Change → Option Found → Bool
-agrees (set n) o = true
-agrees (raise none) o = true
+abbrev pub agrees : Change → (old : Option Record) → Bool
+agrees (set n) old = true
+agrees (raise none) old = true
 agrees (raise (some n)) none = true
-agrees (raise (some n)) (some o) = eqb n (o .rec .version)
+agrees (raise (some n)) (some r) = eqb n (r .version)
+
+-- ---- version, expiry and flags after a write
 
 -- a version that rises, unless it is at its top
 abbrev pub oneHigher : ℕ → Checked ℕ
@@ -71,22 +82,22 @@ oneHigher v = do
   ok (suc v)
 
 -- ABS stores its version; otherwise an absent key starts at 1 and a live one rises
-abbrev pub versionAfter : Change → Option Found → Checked ℕ
-versionAfter (set n) o = ok n
+abbrev pub versionAfter : Change → (old : Option Record) → Checked ℕ
+versionAfter (set n) old = ok n
 versionAfter (raise e) none = ok 1
-versionAfter (raise e) (some o) = oneHigher (o .rec .version)
+versionAfter (raise e) (some r) = oneHigher (r .version)
 
-abbrev pub expiryAfter : Expire → Option Found → ℕ
-expiryAfter clear o = 0
-expiryAfter (at n) o = n
+abbrev pub expiryAfter : Expire → (old : Option Record) → ℕ
+expiryAfter clear old = 0
+expiryAfter (at n) old = n
 expiryAfter keep none = 0
-expiryAfter keep (some o) = o .rec .expiry
+expiryAfter keep (some r) = r .expiry
 
 -- the flags given, else those stored, else 0
-abbrev pub flagsAfter : Option ℕ → Option Found → ℕ
-flagsAfter (some g) o = g
+abbrev pub flagsAfter : Option ℕ → (old : Option Record) → ℕ
+flagsAfter (some g) old = g
 flagsAfter none none = 0
-flagsAfter none (some o) = o .rec .flags
+flagsAfter none (some r) = r .flags
 
 -- ---- the value after a write
 
@@ -96,15 +107,15 @@ pub record New : Type 0 where
   pub reply : ℕ → Reply
 
 -- EXAPPEND puts the text after the stored one, EXPREPEND before it; an absent key has none
-abbrev pub joined : End → List ℕ → Option (List ℕ) → List ℕ
+abbrev pub joined : End → List ℕ → (stored : Option (List ℕ)) → List ℕ
 joined e v none = v
-joined back v (some old) = old ++ v
-joined front v (some old) = v ++ old
+joined back v (some s) = s ++ v
+joined front v (some s) = v ++ s
 
 -- the number that EXINCRBY counts from: an absent key's is 0
-abbrev pub counter : Option (List ℕ) → Checked ℤ
+abbrev pub counter : (stored : Option (List ℕ)) → Checked ℤ
 counter none = ok (pos 0)
-counter (some old) = given 13 (readSigned old)
+counter (some s) = given 13 (readSigned s)
 
 abbrev pub notBelow : Option ℤ → ℤ → Bool
 notBelow none z = true
@@ -120,117 +131,100 @@ floored true z = cond (nonNeg z) z (pos 0)
 floored false z = z
 
 -- the sum is tested against 64 bits, MIN and MAX, and after that floored
-abbrev pub sum : (stored by : ℤ) (min max : Option ℤ) (nonNegative : Bool) → Checked ℤ
-sum a z min max nn = do
-  check 14 (isSigned (a +ℤ z) && notBelow min (a +ℤ z) && notAbove max (a +ℤ z))
-  ok (floored nn (a +ℤ z))
+abbrev pub sum : Increment → (counter : ℤ) → Checked ℤ
+sum i a = do
+  check 14 (isSigned (a +ℤ i .by) && notBelow (i .min) (a +ℤ i .by) && notAbove (i .max) (a +ℤ i .by))
+  ok (floored (i .nonNegative) (a +ℤ i .by))
+
+-- what EXINCRBY comes to: tests 13 and 14
+unfoldable pub total : Increment → (stored : Option (List ℕ)) → Checked ℤ
+total i s = do
+  a ← counter s
+  sum i a
 
 -- EXINCRBY's new text is that of a number
-abbrev pub counted : (by : ℤ) (min max : Option ℤ) (nonNegative withVersion : Bool) → Option (List ℕ) → Checked New
-counted z min max nn w old = do
-  a ← counter old
-  t ← sum a z min max nn
-  ok (record { text = intText t; reply = countReply w t })
+abbrev pub counted : Increment → (stored : Option (List ℕ)) → Checked New
+counted i s = do
+  z ← total i s
+  ok (record { text = intText z; reply = countReply (i .withVersion) z })
 
 -- ---- the path of every command that writes a value
 
--- how a write comes to its version, expiry, flags and value; the value from the stored text
-pub record Write : Type 0 where
-  pub change : Change
-  pub expire : Expire
-  pub flags : Option ℕ
-  pub value : Option (List ℕ) → Checked New
-
--- the text of the live record
-abbrev pub valueIn : Option Found → Option (List ℕ)
-valueIn o = Option·map (λ o. o .rec .value) o
-
--- EXSET
-abbrev pub setting : (value : List ℕ) → Change → Expire → (flags : ℕ) → (withVersion : Bool) → Write
-setting v c e g w = record { change = c; expire = e; flags = some g; value = λ old. ok (record { text = v; reply = setReply w }) }
-
--- EXINCRBY
-abbrev pub counting : (by : ℤ) → Change → Expire → (min max : Option ℤ) (nonNegative withVersion : Bool) → Write
-counting z c e min max nn w = record { change = c; expire = e; flags = none; value = counted z min max nn w }
-
 -- EXCAS on the record's own version
-abbrev pub swapping : (value : List ℕ) → Expire → Write
-swapping v e = record { change = raise none; expire = e; flags = none; value = λ old. ok (record { text = v; reply = swapReply }) }
+abbrev pub swapping : Expire → Terms
+swapping e = record { presence = always; change = raise none; expire = e }
 
--- EXAPPEND and EXPREPEND
-abbrev pub joining : End → (value : List ℕ) → Change → Write
-joining e v c = record { change = c; expire = keep; flags = none; value = λ old. ok (record { text = joined e v old; reply = versionReply }) }
-
-module _ (f : Form) (now : ℕ) (ss : List Slot) where
-  -- a live record's own slot, or the one that a new record takes
-  abbrev pub placeOf : List ℕ → Option Found → Option ℕ
-  placeOf k none = slotFor now k ss
-  placeOf k (some o) = some (o .at)
-
-  -- tests 12 to 17, in this order, and the record with all its fields
-  abbrev pub write : List ℕ → Option Found → Write → Checked Effect
-  write k o w = do
-    check 12 (agrees (w .change) o)
-    new ← w .value (valueIn o)
-    n ← versionAfter (w .change) o
-    check 16 (leb (length (new .text)) (f .valueLimit))
-    i ← given 17 (placeOf k o)
-    ok
-        (store i
-        (used (record { key = k; value = new .text; flags = flagsAfter (w .flags) o; version = n; expiry = expiryAfter (w .expire) o }))
-        (new .reply n))
-
--- ---- the commands
-
-abbrev pub allowed : Presence → Option Found → Bool
-allowed always o = true
-allowed ifAbsent none = true
-allowed ifAbsent (some o) = false
-allowed ifLive none = false
-allowed ifLive (some o) = true
+-- a record stored, and the reply to its version
+abbrev pub storing : (reply : ℕ → Reply) → Placed → Effect
+storing reply p = store (p .at) (used (p .rec)) (reply (p .rec .version))
 
 -- nil where NX or XX forbids
 abbrev pub orNil : Bool → Checked Effect → Checked Effect
 orNil true e = e
 orNil false e = ok (answer (one nil))
 
+-- before a write: NX and XX, then VER (12)
+abbrev pub admit : Terms → (old : Option Record) → (next : Checked Effect) → Checked Effect
+admit t old next = orNil (allowed (t .presence) old) (check 12 (agrees (t .change) old) >> next)
+
 -- the answer for an absent key, or what is done to the live record
-abbrev pub onLive : Option Found → Reply → (Found → Checked Effect) → Checked Effect
-onLive none r g = ok (answer r)
-onLive (some o) r g = g o
+abbrev pub onLive : Lookup → Reply → (Placed → Checked Effect) → Checked Effect
+onLive (liveAt p) r g = g p
+onLive (expiredAt i) r g = ok (answer r)
+onLive absent r g = ok (answer r)
 
-abbrev pub withVersion : ℕ → Record → Record
-withVersion n r = record { key = r .key; value = r .value; flags = r .flags; version = n; expiry = r .expiry }
+abbrev pub setVersion : ℕ → Record → Record
+setVersion n r = record { key = r .key; value = r .value; flags = r .flags; version = n; expiry = r .expiry }
 
-abbrev pub withExpiry : ℕ → Record → Record
-withExpiry x r = record { key = r .key; value = r .value; flags = r .flags; version = r .version; expiry = x }
+abbrev pub setExpiry : ℕ → Record → Record
+setExpiry x r = record { key = r .key; value = r .value; flags = r .flags; version = r .version; expiry = x }
 
-module _ (f : Form) (now : ℕ) (ss : List Slot) where
-  -- what a command does, given the live record with its key
-  abbrev pub executeOn : Option Found → Command → Checked Effect
-  executeOn o (exset k v p c e g w) = orNil (allowed p o) (write f now ss k o (setting v c e g w))
-  executeOn o (exget k w) = onLive o (one nil) λ r. ok (answer (getReply w (r .rec)))
-  executeOn o (exsetver k n) = onLive o (one (number 0)) λ r. ok (store (r .at) (used (withVersion n (r .rec))) (one (number 1)))
-  executeOn o (exincrby k z p c e min max nn w) = orNil (allowed p o) (write f now ss k o (counting z c e min max nn w))
-  executeOn o (excas k v n e) =
-      onLive o minusOne λ r. cond (eqb n (r .rec .version)) (write f now ss k o (swapping v e)) (ok (answer (staleReply (r .rec))))
-  executeOn o (excad k n) =
-      onLive o minusOne λ r. ok (cond (eqb n (r .rec .version)) (store (r .at) empty (one (number 1))) (answer (one (number 0))))
-  executeOn o (exjoin e k v p c) = orNil (allowed p o) (write f now ss k o (joining e v c))
-  executeOn o (exgae k x) = onLive o (one nil) λ r. ok (store (r .at) (used (withExpiry x (r .rec))) (getReply true (r .rec)))
-  executeOn o (del k) = onLive o (one (number 0)) λ r. ok (store (r .at) empty (one (number 1)))
+-- over the form, the key, what stands under it, and the slot that a write takes
+module _ (f : Form) (k : List ℕ) (l : Lookup) (slot : Option ℕ) where
+  -- from the new text on: tests 15 to 17, and the record with all its fields; the flags are kept where none are given
+  unfoldable pub put : Terms → (flags : Option ℕ) → (text : List ℕ) → Checked Placed
+  put t g v = do
+    n ← versionAfter (t .change) (liveRecord l)
+    check 16 (leb (length v) (f .valueLimit))
+    i ← given 17 slot
+    ok (record {
+      at = i;
+      rec = record { key = k; value = v; flags = flagsAfter g (liveRecord l); version = n; expiry = expiryAfter (t .expire) (liveRecord l) };
+    })
 
-abbrev pub keyOf : Command → List ℕ
-keyOf (exset k v p c e g w) = k
-keyOf (exget k w) = k
-keyOf (exsetver k n) = k
-keyOf (exincrby k z p c e min max nn w) = k
-keyOf (excas k v n e) = k
-keyOf (excad k n) = k
-keyOf (exjoin e k v p c) = k
-keyOf (exgae k x) = k
-keyOf (del k) = k
+  -- tests 13 to 17; the new text is made from the stored one (13 and 14)
+  unfoldable pub write : Terms → (flags : Option ℕ) → (make : Option (List ℕ) → Checked New) → Checked Effect
+  write t g make = do
+    new ← make (Option·map (λ r. r .value) (liveRecord l))
+    p ← put t g (new .text)
+    ok (storing (new .reply) p)
+
+  -- a write on terms: tests 12 to 17
+  abbrev pub writeIf : Terms → (flags : Option ℕ) → (make : Option (List ℕ) → Checked New) → Checked Effect
+  writeIf t g make = admit t (liveRecord l) (write t g make)
+
+  -- what an action does
+  abbrev pub act : Action → Checked Effect
+  act (exset s) = writeIf (s .terms) (some (s .flags)) λ v. ok (record { text = s .value; reply = setReply (s .withVersion) })
+  act (exget w) = onLive l (one nil) λ p. ok (answer (getReply w (p .rec)))
+  act (exsetver n) = onLive l (one (number 0)) λ p. ok (store (p .at) (used (setVersion n (p .rec))) (one (number 1)))
+  act (exincrby i) = writeIf (i .terms) none (counted i)
+  act (excas v n e) =
+      onLive l minusOne λ p.
+      cond (eqb n (p .rec .version)) (write (swapping e) none λ old. ok (record { text = v; reply = swapReply })) (ok (answer (staleReply (p .rec))))
+  act (excad n) =
+      onLive l minusOne λ p. ok (cond (eqb n (p .rec .version)) (store (p .at) empty (one (number 1))) (answer (one (number 0))))
+  act (exjoin j) = writeIf (j .terms) none λ v. ok (record { text = joined (j .end) (j .value) v; reply = versionReply })
+  act (exgae e) =
+      onLive l (one nil) λ p. ok (store (p .at) (used (setExpiry (expiryAfter e (some (p .rec))) (p .rec))) (getReply true (p .rec)))
+  act del = onLive l (one (number 0)) λ p. ok (store (p .at) empty (one (number 1)))
+
+-- ---- a command
+
+-- what a command does, once its key is looked up
+abbrev pub executeOn : Form → (now : ℕ) → List Slot → Lookup → Command → Checked Effect
+executeOn f now ss l c = act f (c .key) l (slotFor now ss l) (c .action)
 
 -- what a command does to the slots at a time
 unfoldable pub execute : Form → (now : ℕ) → List Slot → Command → Checked Effect
-execute f now ss c = executeOn f now ss (findLive now (keyOf c) ss) c
+execute f now ss c = executeOn f now ss (lookup now (c .key) ss) c

@@ -1,20 +1,16 @@
--- Laws of the model's decimal text, and of a text written over a buffer byte by byte.
+-- Laws of the model's decimal text.
 -- Assumes nothing.
-use mathlib.Core.Path.{_≡_, refl, sym, ap, _∙_}
+use mathlib.Core.Path.{_≡_, refl, ap, _∙_}
 use mathlib.Core.Bool.{Bool, true, false, cond}
 use mathlib.Core.List.{List, [], _∷_, _++_, append-assoc}
 use Prim.Native.Nat.{ℕ, zero, suc, _+_, _/_, _%_, _^_, _≤_, _<_}
 use native.Mathlib.Nat.{pow-succ', one-le-pow}
 use native.Mathlib.Omega.{arith}
-use native.Mathlib.Numerals.{add-one}
 use lib.Dec.{ltb}
-use lib.ListN.{length, drop, set, length-set, length-append}
-use lib.Seq.{drop-cons, getD-set-same, drop-set-lt, take-set-le, take-suc-set}
+use lib.ListN.{length, length-append}
 use borrow.Author.Tests.{lt-ltb, le-ltb}
-use Rattle.model.specs.Bytes.{written}
 use Rattle.model.specs.Number.{digits, natText}
 use Rattle.model.proofs.Numbers.{by-digits}
-use Rattle.number.specs.Wrote.{Wrote}
 
 -- ---- decimal text
 
@@ -76,24 +72,3 @@ text-longer (suc k) {x} r h =
     let e = pow-succ' 10 k in
     let p = split r (omega (arith, one-le-pow k 10 (omega arith))) in
     omega (arith, text-longer k (p .text) (omega arith), simp length-append at (ap length (p .is)))
-
--- ---- a text written over a buffer
-
--- the last byte of a text is stored: the text before it is to be written
-pub written-last : (at : ℕ) (s : List ℕ) (x : ℕ) (b : List ℕ) (n : ℕ) → length s ≡ n → at + n < length b
-    → written at (s ++ (x ∷ [])) b ≡ written at s (set b (at + n) x)
-written-last at s x b n q h =
-    let i = at + n in
-    let tail : drop i (set b i x) ≡ x ∷ drop (suc i) b =
-    drop-cons (set b i x) i 0 (rw (length-set b i x) h) ∙ rw (getD-set-same b i x 0 h, drop-set-lt (suc i) b i x (omega arith)) in
-    let e : at + length (s ++ (x ∷ [])) ≡ suc i = omega (arith, length-append s (x ∷ [])) in
-    rw (take-set-le at b i x (omega arith), q, tail, e) (simp append-assoc)
-
--- the first byte of a text is stored: the text after it is to be written
-pub written-first : (at x : ℕ) (s b : List ℕ) → at < length b → written at (x ∷ s) b ≡ written (at + 1) s (set b at x)
-written-first at x s b h =
-    let e : at + length (x ∷ s) ≡ suc at + length s = omega arith in
-    rw (add-one at, take-suc-set b at x h, drop-set-lt (suc at + length s) b at x (omega arith), e) (simp append-assoc)
-
-pub wrote-first : {at x : ℕ} {s b after : List ℕ} {next : ℕ} → at < length b → Wrote (at + 1) s (set b at x) after next → Wrote at (x ∷ s) b after next
-wrote-first {at} {x} {s} {b} h w = record { place = omega (arith, w .place); bytes = w .bytes ∙ sym (written-first at x s b h) }

@@ -6,8 +6,8 @@ ghost use lib.ListN.{length};
 ghost use lib.IntN.{pos, negℤ, natAbs, _+ℤ_};
 ghost use Rattle.model.specs.Bytes.{written};
 ghost use Rattle.model.specs.Number.{readDigits, readPositive, readSigned, readBelow, readVersion, readFlags, signedLimit, natText, intText};
+ghost use Rattle.slice.specs.Wrote.{Wrote};
 ghost use Rattle.number.specs.Answer.{signedFrom, naturalFrom, sumFrom, negativeFrom};
-ghost use Rattle.number.specs.Wrote.{Wrote};
 
 // A signed number that a text says, if it says one in range.
 pub enum Signed {

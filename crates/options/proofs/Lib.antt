@@ -1,4 +1,5 @@
--- Laws of words at their places, of options by kind and group, and of their reading word by word.
-pub mod Places
+-- Laws of the groups of options, of their reading word by word, and of what they say.
 pub mod Groups
-pub mod Steps
+pub mod Taking
+pub mod Answers
+pub mod Times

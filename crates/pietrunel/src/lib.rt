@@ -1,5 +1,5 @@
 // The library's functions for C: a slice crosses as a pointer and a length.
-use current::Shown;
+use store::Shown;
 ghost use Rattle.model.specs.Table.{form128};
 ghost use Rattle.model.specs.Call.{call};
 ghost use Rattle.model.specs.CurrentValue.{currentValue};
@@ -34,7 +34,7 @@ pub extern "C" fn pietrunel_current_value(
 ) -> bool
     ensures { λ r. ⌜ Located (currentValue form128 (now (table .entry)) time (now (command .entry))) r (now (inside .exit)) (now (start .exit)) (now (len .exit)) ⌝ }
 {
-    match locate::locate(table, time, command) {
+    match store::locate(table, time, command) {
         Shown::Nothing => {
             *inside = false;
             *start = 0;

@@ -1,52 +1,57 @@
--- Storing a text under a key: tests 15 to 17 of the model's `write`, and what they leave.
+-- What storing a value leaves, as the model has it.
 use Prim.Native.Nat.{ℕ}
+use mathlib.Core.Path.{_≡_}
+use mathlib.Core.Bool.{Bool, true, false}
 use mathlib.Core.List.{List}
-use mathlib.Core.Option.{Option, some}
-use lib.ListN.{length}
-use lib.Dec.{leb}
-use Rattle.model.specs.Checked.{Checked, refuse, ok, check, given, _>>=_, _>>_}
-use Rattle.model.specs.Table as model
-use Rattle.model.specs.Table.{Record, Slot, used, form128}
-use Rattle.model.specs.Command.{Change, Expire, End}
-use Rattle.model.specs.Resp.{Reply}
-use Rattle.model.specs.Execute.{Effect, store, versionAfter, expiryAfter, flagsAfter, placeOf, joined}
-use Rattle.table.specs.Slots.{slotsOf}
+use mathlib.Core.Option.{Option, Option·map}
+use Rattle.model.specs.Checked.{Checked, refuse, ok, _>>=_}
+use Rattle.model.specs.Table.{Form, Record, used}
+use Rattle.model.specs.Search.{Placed, liveRecord}
+use Rattle.model.specs.Command.{Expire, End, back, front, Terms}
+use Rattle.model.specs.Execute.{flagsAfter, expiryAfter, put}
+use Rattle.record.specs.declared.Attributes.{Attributes}
+use Rattle.table.specs.Slots.{withSlot}
 use Rattle.table.specs.declared.Found.{Found}
-use Rattle.change.specs.Slot.{withSlot}
-use Rattle.live.specs.Live.{liveOf}
+use Rattle.table.specs.declared.Found.the-variants as Found
+use Rattle.live.specs.declared.Lookup.{Lookup}
+use Rattle.live.specs.declared.Target.{Target}
+use Rattle.live.specs.Under.{storedIn, shapeOf, lookupIn, slotIn}
 use Rattle.put.specs.declared.Stored.{Stored}
 use Rattle.put.specs.declared.Stored.the-variants.{Version, Refused}
 
--- a record and the slot that it is put into
-pub record Put : Type 0 where
-  pub slot : ℕ
-  pub rec : Record
+-- a slot, or the refusal of a full table
+abbrev pub checkedSlot : Found → Checked ℕ
+checkedSlot (Found.At i) = ok i
+checkedSlot Found.Nothing = refuse 17
 
--- the record of the text v under the key k and its slot; `o` is the live record with the key, if there is one
-unfoldable pub put : (now : ℕ) (ss : List Slot) (k : List ℕ) → Option model.Found → Change → Expire → (flags : Option ℕ) → (v : List ℕ) → Checked Put
-put now ss k o c e g v = do
-  n ← versionAfter c o
-  check 16 (leb (length v) (form128 .valueLimit))
-  i ← given 17 (placeOf form128 now ss k o)
-  ok (record { slot = i; rec = record { key = k; value = v; flags = flagsAfter g o; version = n; expiry = expiryAfter e o } })
+-- the attributes of a record that is written with the version n
+abbrev pub attributesAfter : Lookup → (n : ℕ) → Expire → (flags : Option ℕ) → Attributes
+attributesAfter l n e g = record { flags = flagsAfter g (storedIn l); version = n; expiry = expiryAfter e (storedIn l) }
 
--- the same in the table t, with the slot of the live record
-abbrev pub putting : (now : ℕ) (t k : List ℕ) → Found → Change → Expire → (flags : Option ℕ) → (v : List ℕ) → Checked Put
-putting now t k live = put now (slotsOf t) k (liveOf t live)
+-- whether a text is joined at the front
+abbrev pub isFront : End → Bool
+isFront back = false
+isFront front = true
 
--- the effect, with the reply to the new version
-abbrev pub putEffect : (ℕ → Reply) → Put → Effect
-putEffect reply p = store (p .slot) (used (p .rec)) (reply (p .rec .version))
+-- the live record's value
+abbrev pub valueIn : (t : List ℕ) → Target → Option (List ℕ)
+valueIn t g = Option·map (λ (r : Record). r .value) (liveRecord (lookupIn t g))
 
--- what storing gives back, and the table that it leaves
-pub record Left : Type 0 where
-  pub stored : Stored
-  pub table : List ℕ
+-- the record that the text v makes under the key k, and its slot
+abbrev pub putIn : (t : List ℕ) → Target → (k : List ℕ) → Terms → (flags : Option ℕ) → (v : List ℕ) → Checked Placed
+putIn t g k = put (shapeOf g) k (lookupIn t g) (slotIn t g)
 
-abbrev pub leftBy : (table : List ℕ) → Checked Put → Left
-leftBy t (refuse n) = record { stored = Refused n; table = t }
-leftBy t (ok p) = record { stored = Version (p .rec .version); table = withSlot t (p .slot) (used (p .rec)) }
+-- a version that was stored, or the number of the refusal
+abbrev pub checkedStored : Stored → Checked ℕ
+checkedStored (Version n) = ok n
+checkedStored (Refused n) = refuse n
 
--- a record with the text v joined to its value, and a version
-abbrev pub joinedRecord : End → (v : List ℕ) → (version : ℕ) → Record → Record
-joinedRecord end v n r = record { key = r .key; value = joined end v (some (r .value)); flags = r .flags; version = n; expiry = r .expiry }
+-- the table after a record is put into it; a refusal leaves it
+abbrev pub tableAfter : Form → (t : List ℕ) → Checked Placed → List ℕ
+tableAfter f t (refuse n) = t
+tableAfter f t (ok p) = withSlot f t (p .at) (used (p .rec))
+
+-- the answer r and the table, from t to `after`, are those of x
+pub record Puts (f : Form) (t after : List ℕ) (r : Stored) (x : Checked Placed) : Type 0 where
+  pub stored : checkedStored r ≡ (x >>= λ (p : Placed). ok (p .rec .version))
+  pub table : after ≡ tableAfter f t x

@@ -1,65 +1,90 @@
--- The bytes of one record, 128 of them: what a call may ask of them, and what it changes.
-use Prim.Native.Nat.{ℕ}
+-- The bytes of one record: what a call may ask of them, and what it changes.
+use Prim.Native.Nat.{ℕ, _+_, _≤_}
 use mathlib.Core.Path.{_≡_}
 use mathlib.Core.Bool.{Bool, true, _&&_}
-use mathlib.Core.List.{List, [], _∷_, _++_}
+use mathlib.Core.List.{List, [], _∷_}
 use mathlib.Core.Option.{Option·getD, some}
 use lib.ListN.{length, getD}
 use lib.Dec.{leb, ltb, eqb}
-use Rattle.model.specs.Bytes.{all, part, littleEndian, fromLittleEndian}
+use Rattle.model.specs.Bytes.{same, all, part, padded, fromLittleEndian}
 use Rattle.model.specs.Number.{versionLimit}
-use Rattle.model.specs.Table.{form128, Record, Slot, empty, used, readSlot, fields, keyLimit, timeLimit, useAt, keyLengthAt, valueLengthAt, keyAt}
-use Rattle.model.specs.Command.{isSome}
+use Rattle.model.specs.Table.{Form, Record, Slot, empty, used, recordSize, recordBytes, readSlot, fields, keyLimit, timeLimit, useAt, keyLengthAt, valueLengthAt, keyAt, valueAt, tailSize}
+use Rattle.model.specs.Optional.{isSome}
+use Rattle.record.specs.Forms.{Lawful}
+use Rattle.record.specs.declared.Attributes.{Attributes}
+use Rattle.record.specs.Attributes.{attributeBytes}
 
 -- the slot that the bytes are; an empty one if they are none
-abbrev pub slotOf : List ℕ → Slot
-slotOf b = Option·getD (readSlot form128 b) empty
+abbrev pub asSlot : Form → List ℕ → Slot
+asSlot f b = Option·getD (readSlot f b) empty
 
--- the bytes of a record, empty or in use
-pub record Readable (b : List ℕ) : Type 0 where
-  pub size : length b ≡ 128
-  pub read : isSome (readSlot form128 b) ≡ true
+-- the bytes of a record of a form, empty or in use
+pub record Readable (f : Form) (b : List ℕ) : Type 0 where
+  pub size : length b ≡ recordSize f
+  pub read : isSome (readSlot f b) ≡ true
 
--- the bytes of a record in use
+-- the bytes of a record of a form, in use
+pub record InUseOf (f : Form) (b : List ℕ) : Type 0 where
+  pub size : length b ≡ recordSize f
+  pub read : readSlot f b ≡ some (used (fields b))
+
+-- the bytes of a record in use, of some form: what a function asks that reads no more than the bytes
 pub record InUse (b : List ℕ) : Type 0 where
-  pub size : length b ≡ 128
-  pub read : readSlot form128 b ≡ some (used (fields b))
+  pub form : Form
+  pub lawful : Lawful form
+  pub is : InUseOf form b
 
--- a record with another value, version or expiry
-abbrev pub withValue : List ℕ → Record → Record
-withValue v r = record { key = r .key; value = v; flags = r .flags; version = r .version; expiry = r .expiry }
+-- the bytes of a record, empty or in use, of some form
+pub record IsSlot (b : List ℕ) : Type 0 where
+  pub form : Form
+  pub lawful : Lawful form
+  pub is : Readable form b
 
-abbrev pub withVersion : ℕ → Record → Record
-withVersion n r = record { key = r .key; value = r .value; flags = r .flags; version = n; expiry = r .expiry }
+-- whether byte 0 is that of a record in use
+abbrev pub isUsed : List ℕ → Bool
+isUsed b = eqb (getD b useAt 0) 1
 
-abbrev pub withExpiry : ℕ → Record → Record
-withExpiry n r = record { key = r .key; value = r .value; flags = r .flags; version = r .version; expiry = n }
+-- whether the bytes are a record in use with the key k
+abbrev pub hasKey : (k b : List ℕ) → Bool
+hasKey k b = isUsed b && same k (fields b .key)
 
--- bytes 0 to 23 of a record in use, from the lengths of its key and value and its numbers
-unfoldable pub head : (key value flags version expiry : ℕ) → List ℕ
-head k v f n e = 1 ∷ k ∷ v ∷ 0 ∷ (littleEndian 4 f ++ (littleEndian 8 n ++ littleEndian 8 e))
+-- there is room for s beside the value
+abbrev pub Fits : (b s : List ℕ) → Type 0
+Fits b s = valueAt + (length (fields b .value) + length s) + tailSize ≤ length b
+
+-- the bytes b of a record in use became those of the record changed by g, whatever its form
+abbrev pub Changed : (Record → Record) → (b after : List ℕ) → Type 0
+Changed g b after = (f : Form) → InUseOf f b → after ≡ recordBytes f (g (fields b))
+
+-- bytes 0 to 23 of a record in use, from byte 3, the lengths of its key and value and its attributes
+unfoldable pub head : (mark key value : ℕ) → Attributes → List ℕ
+head m k v a = 1 ∷ k ∷ v ∷ m ∷ attributeBytes a
 
 -- the tests of those bytes
-abbrev pub headRules : List ℕ → List Bool
-headRules b =
+abbrev pub headRules : Form → List ℕ → List Bool
+headRules f b =
     eqb (getD b useAt 0) 1
     ∷ leb 1 (getD b keyLengthAt 0) ∷ leb (getD b keyLengthAt 0) keyLimit
-    ∷ leb (getD b valueLengthAt 0) (form128 .valueLimit)
-    ∷ eqb (getD b 3 0) (form128 .mark)
+    ∷ leb (getD b valueLengthAt 0) (f .valueLimit)
+    ∷ eqb (getD b 3 0) (f .mark)
     ∷ ltb (fields b .version) versionLimit
     ∷ leb (fields b .expiry) timeLimit
     ∷ []
 
 -- whether those bytes can be of a record in use
-unfoldable pub isHead : List ℕ → Bool
-isHead b = all (headRules b)
+unfoldable pub isHead : Form → List ℕ → Bool
+isHead f b = all (headRules f b)
 
 -- the number in the 8 bytes at a place
 abbrev pub word : (at : ℕ) → List ℕ → ℕ
 word at s = fromLittleEndian (part at 8 s)
 
--- whether the bytes are a record in use whose key has n bytes and is, with the zeros after it, the words a, b and c
-unfoldable pub hasWords : (n a b c : ℕ) → List ℕ → Bool
-hasWords n a b c r =
-    let key = part keyAt keyLimit r in
-    (eqb (word 0 key) a && eqb (word 8 key) b) && (eqb (word 16 key) c && (eqb (getD r keyLengthAt 0) n && eqb (getD r useAt 0) 1))
+-- whether the 24 bytes of a record's key, with the zeros after it, begin with the words a and b
+unfoldable pub beginsWith : (a b : ℕ) → List ℕ → Bool
+beginsWith a b r = let key = part keyAt keyLimit r in eqb (word 0 key) a && eqb (word 8 key) b
+
+-- a key of at most 24 bytes and, with the zeros after it, its first two words
+pub record WordsOf (k : List ℕ) (a b : ℕ) : Type 0 where
+  pub short : length k ≤ keyLimit
+  pub low : a ≡ word 0 (padded keyLimit k)
+  pub high : b ≡ word 8 (padded keyLimit k)

@@ -1,120 +1,105 @@
-// One record of 128 bytes: its check and its fields.
+// One record: its forms and layout, its check, its fields, and the writes to it.
+mod fields;
+mod valid;
+mod writes;
+
+pub use fields::attributes_of;
+pub use fields::begins;
+pub use fields::expiry;
+pub use fields::flags;
+pub use fields::has_key;
+pub use fields::in_use;
+pub use fields::is_live;
+pub use fields::key;
+pub use fields::value;
+pub use fields::version;
+pub use valid::readable;
+pub use writes::clear;
+pub use writes::join;
+pub use writes::set_attributes;
+pub use writes::write;
 ghost use mathlib.Core.Path.{_≡_};
-ghost use mathlib.Core.Bool.{not};
-ghost use Prim.Native.Nat.{_+_};
-ghost use lib.ListN.{length};
-ghost use Rattle.model.specs.Table.{form128, readSlot, isRecord, fields, isEmpty, live};
-ghost use Rattle.model.specs.Command.{isSome};
-ghost use Rattle.slice.specs.Zeros.{zerosThenOnes};
-ghost use Rattle.record.specs.Record.{slotOf, Readable, InUse, isHead, hasWords};
+ghost use Rattle.model.specs.Table.{recordSize};
+ghost use Rattle.record.specs.Forms.{formOf};
 
-// Whether the bytes are a record, empty or in use. The mask is slice's.
-pub fn readable(r: &[u8], mask: &[u8; 144]) -> bool
-    requires { ⌜ (length (now r) ≡ 128) × (now mask ≡ zerosThenOnes) ⌝ }
-    ensures { λ b. ⌜ b ≡ isSome (readSlot form128 (now (r .entry))) ⌝ }
+// The forms of a record, by their size in bytes.
+pub enum Form {
+    Of128,
+    Of192,
+}
+
+// What a record in use has besides its key and its value.
+pub struct Attributes {
+    pub flags: u32,
+    pub version: u64,
+    pub expiry: u64,
+}
+
+// The places of the fields of a record; from the value's on they differ by form.
+pub const USE_AT: usize = 0;
+
+pub const KEY_LENGTH_AT: usize = 1;
+
+pub const VALUE_LENGTH_AT: usize = 2;
+
+pub const MARK_AT: usize = 3;
+
+pub const FLAGS_AT: usize = 4;
+
+pub const VERSION_AT: usize = 8;
+
+pub const EXPIRY_AT: usize = 16;
+
+pub const KEY_AT: usize = 24;
+
+pub const VALUE_AT: usize = 48;
+
+// Byte 0 of a record in use.
+pub const USED: u8 = 1;
+
+// The longest key, the versions' end and the latest time: 2^63 and 2^62.
+pub const KEY_LIMIT: usize = 24;
+
+pub const VERSION_LIMIT: u64 = 9223372036854775808;
+
+pub const TIME_LIMIT: u64 = 4611686018427387904;
+
+// The bytes of a record.
+pub fn size(form: Form) -> usize
+    ensures { λ n. ⌜ n ≡ recordSize (formOf form) ⌝ }
 {
-    if r[0] == 0 {
-        return slice::is_zero(r);
+    match form {
+        Form::Of128 => 128,
+        Form::Of192 => 192,
     }
-    is_record(r, mask)
 }
 
-// Whether the bytes are a record in use.
-fn is_record(r: &[u8], mask: &[u8; 144]) -> bool
-    requires { ⌜ (length (now r) ≡ 128) × (now mask ≡ zerosThenOnes) ⌝ }
-    ensures { λ b. ⌜ b ≡ isRecord form128 (now (r .entry)) ⌝ }
+// The longest value.
+pub fn limit(form: Form) -> usize
+    ensures { λ n. ⌜ n ≡ formOf form .valueLimit ⌝ }
 {
-    if !is_head(r) {
-        return false;
+    match form {
+        Form::Of128 => 64,
+        Form::Of192 => 128,
     }
-    let key_padded = slice::is_zero_from(&r[24..48], r[1] as usize, mask);
-    let value_padded = slice::is_zero_from(&r[48..128], r[2] as usize, mask);
-    key_padded & value_padded
 }
 
-// Whether bytes 0 to 23 can be of a record in use.
-fn is_head(r: &[u8]) -> bool
-    requires { ⌜ length (now r) ≡ 128 ⌝ }
-    ensures { λ b. ⌜ b ≡ isHead (now (r .entry)) ⌝ }
+// Byte 3 of a record in use.
+pub fn mark(form: Form) -> u8
+    ensures { λ n. ⌜ n ≡ formOf form .mark ⌝ }
 {
-    let version_fits = version(r) < 9223372036854775808;
-    let expiry_fits = expiry(r) <= 4611686018427387904;
-    (r[0] == 1)
-        & ((1 <= r[1])
-            & ((r[1] <= 24) & ((r[2] <= 64) & ((r[3] == 0) & (version_fits & expiry_fits)))))
-}
-
-// Whether a record is in use.
-pub fn in_use(r: &[u8]) -> bool
-    requires { ⌜ Readable (now r) ⌝ }
-    ensures { λ b. ⌜ b ≡ not (isEmpty (slotOf (now (r .entry)))) ⌝ }
-{
-    r[0] == 1
-}
-
-// The key of a record in use.
-pub fn key(r: &[u8]) -> &[u8]
-    requires { ⌜ InUse (now r) ⌝ }
-    ensures { λ k. ⌜ now k ≡ fields (now (r .entry)) .key ⌝ }
-{
-    let n = r[1] as usize;
-    &r[24..24 + n]
-}
-
-// The value of a record in use.
-pub fn value(r: &[u8]) -> &[u8]
-    requires { ⌜ InUse (now r) ⌝ }
-    ensures { λ v. ⌜ now v ≡ fields (now (r .entry)) .value ⌝ }
-{
-    let n = r[2] as usize;
-    &r[48..48 + n]
-}
-
-// Whether a record is in use and has the key of `size` bytes that, with the zeros after it, is the three words.
-pub fn has_key(r: &[u8], size: u8, a: u64, b: u64, c: u64) -> bool
-    requires { ⌜ length (now r) ≡ 128 ⌝ }
-    ensures { λ t. ⌜ t ≡ hasWords size a b c (now (r .entry)) ⌝ }
-{
-    let key = &r[24..48];
-    let first = (slice::get8(key, 0) == a) & (slice::get8(key, 8) == b);
-    if !first {
-        return false;
+    match form {
+        Form::Of128 => 0,
+        Form::Of192 => 2,
     }
-    (slice::get8(key, 16) == c) & ((r[1] == size) & (r[0] == 1))
 }
 
-// The flags.
-pub fn flags(r: &[u8]) -> u32
-    requires { ⌜ length (now r) ≡ 128 ⌝ }
-    ensures { λ n. ⌜ n ≡ fields (now (r .entry)) .flags ⌝ }
+// The least reply buffer that a call takes.
+pub fn room(form: Form) -> usize
+    ensures { λ n. ⌜ n ≡ formOf form .replyRoom ⌝ }
 {
-    slice::get4(r, 4)
-}
-
-// The version.
-pub fn version(r: &[u8]) -> u64
-    requires { ⌜ length (now r) ≡ 128 ⌝ }
-    ensures { λ n. ⌜ n ≡ fields (now (r .entry)) .version ⌝ }
-{
-    slice::get8(r, 8)
-}
-
-// The expiry.
-pub fn expiry(r: &[u8]) -> u64
-    requires { ⌜ length (now r) ≡ 128 ⌝ }
-    ensures { λ n. ⌜ n ≡ fields (now (r .entry)) .expiry ⌝ }
-{
-    slice::get8(r, 16)
-}
-
-// Whether a record is live at a time: it has no expiry, or a later one.
-pub fn is_live(r: &[u8], now: u64) -> bool
-    requires { ⌜ length (r .now) ≡ 128 ⌝ }
-    ensures { λ b. ⌜ b ≡ live now (fields (r .entry .now)) ⌝ }
-{
-    let e = expiry(r);
-    if e == 0 {
-        return true;
+    match form {
+        Form::Of128 => 128,
+        Form::Of192 => 192,
     }
-    now < e
 }

@@ -1,2 +1,7 @@
--- Laws of pieces written side by side, for this crate and those above it.
+-- Laws of pieces written side by side, of replies written piece by piece, of the texts of the error replies, of the room that a reply asks,
+-- and of an answer as an outcome of the model.
 pub mod Pieces
+pub mod Writing
+pub mod Messages
+pub mod Room
+pub mod Outcomes

@@ -1,4 +1,4 @@
--- Laws of the reader of commands. Callers use those of Commands: next-word, no-word, bulks-length, count-some, count-not.
+-- Laws of the reader of commands. Callers use those of Spans: words by number.
 pub mod Optional
 pub mod Places
 pub mod Digits
@@ -6,8 +6,5 @@ pub mod Lines
 pub mod Starts
 pub mod Words
 pub mod Commands
-mod Held
-mod Thin
-mod Through
-mod Forms
+pub mod Spans
 pub mod Vectors

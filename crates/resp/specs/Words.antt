@@ -1,18 +1,17 @@
 -- What the reader of a command answers, by the model's definitions: it gives places in the bytes s where the model gives the bytes left.
 use Prim.Native.Nat.{ℕ, _-_}
-use mathlib.Core.Bool.{Bool, true, false, cond}
+use mathlib.Core.Bool.{Bool, cond}
 use mathlib.Core.List.{List}
 use mathlib.Core.Option.{Option, none, some}
 use lib.ListN.{length, drop, getD}
 use lib.Dec.{leb}
+use Rattle.model.specs.Optional.{isSome}
 use Rattle.model.specs.Number.{isDigit}
-use Rattle.model.specs.Resp.{commandLimit, arrayMark, line, Taken, skipLineEnd, readLine, readBulk, readBulks}
+use Rattle.model.specs.Resp.{commandLimit, Taken, skipLineEnd, readLine, readBulk, readBulks}
 use Rattle.resp.specs.declared.Line.{Line}
 use Rattle.resp.specs.declared.Line.the-variants as Line
 use Rattle.resp.specs.declared.Word.{Word}
 use Rattle.resp.specs.declared.Word.the-variants as Word
-use Rattle.resp.specs.declared.Count.{Count}
-use Rattle.resp.specs.declared.Count.the-variants as Count
 
 -- ---- lines
 
@@ -25,14 +24,9 @@ limited next (some n) = cond (leb n commandLimit) (Line.Number n next) Line.Malf
 unfoldable pub digitAt : List ℕ → ℕ → ℕ
 digitAt s at = let c = getD s at 0 in cond (isDigit c) (c - 48) 10
 
--- whether something was read
-abbrev pub present : {A : Type 0} → Option A → Bool
-present none = false
-present (some a) = true
-
 -- whether CR LF stands at the front
 unfoldable pub endsLine : List ℕ → Bool
-endsLine s = present (skipLineEnd s)
+endsLine s = isSome (skipLineEnd s)
 
 -- a line that was read in n bytes; the place after it is that of the bytes left
 abbrev pub lineOf : ℕ → Option (Taken ℕ) → Line
@@ -60,15 +54,4 @@ wordFrom s at = wordOf (length s) (readBulk (drop at s))
 
 -- whether there are n bulk strings from a place on, and nothing after them
 unfoldable pub hasWords : (n : ℕ) → List ℕ → (at : ℕ) → Bool
-hasWords n s at = present (readBulks n (drop at s))
-
--- ---- commands
-
--- the number of words, if the bytes are a command
-abbrev pub countFrom : Option (List (List ℕ)) → Count
-countFrom none = Count.Malformed
-countFrom (some ws) = Count.Words (length ws)
-
--- the place of the first word of n: after the line of their count
-abbrev pub firstWord : ℕ → ℕ
-firstWord n = length (line arrayMark n)
+hasWords n s at = isSome (readBulks n (drop at s))

@@ -1,12 +1,13 @@
-// The words of a command in RESP2, taken by a reader that holds the command and a place in it. Each function over a reader takes it apart and
-// calls one on slice and number; `read_word` and `ends_at` stand above them, so that no other function holds a reader.
+// The words of a command in RESP2, taken by a reader that holds the command and its place in it. No function but `read_words` holds a reader.
 ghost use mathlib.Core.Path.{_≡_};
 ghost use mathlib.Core.Bool.{false};
 ghost use Prim.Native.Nat.{_+_, _≤_, _<_};
 ghost use lib.ListN.{length, drop, getD};
 ghost use lib.Dec.{leb};
-ghost use Rattle.model.specs.Resp.{commandLimit, wordLimit, decode};
-ghost use Rattle.resp.specs.Words.{digitAt, endsLine, lineFrom, wordFrom, hasWords, countFrom, firstWord};
+ghost use Rattle.model.specs.Resp.{commandLimit, wordLimit};
+ghost use Rattle.model.specs.Parse.{wordAt};
+ghost use Rattle.resp.specs.Words.{digitAt, endsLine, lineFrom, wordFrom};
+ghost use Rattle.resp.specs.Spans.{wordsOf, spanIn, Begins, Notes, noted, WordsRead, Splits, Split};
 
 // A line's number, and the place after the line.
 pub enum Line {
@@ -28,6 +29,12 @@ pub enum Word {
 pub enum Count {
     Words(usize),
     Malformed,
+}
+
+// Where the bytes of a word begin and end.
+pub struct Span {
+    pub start: u16,
+    pub end: u16,
 }
 
 // A borrowed command, and a place in it.
@@ -158,69 +165,51 @@ fn is_end(s: &[u8], at: usize) -> bool
 }
 
 impl<'a> Reader<'a> {
-    // The reader at place `at` of a command.
-    pub fn new(command: &'a [u8], at: usize) -> Reader<'a>
-        ensures { λ r. ⌜ (r .command ≡ command .entry) × (r .at ≡ at) ⌝ }
-    {
-        Reader { command, at }
-    }
-
-    // The word at the reader's place; the reader of the word after it stands at `next`.
+    // The word at the reader's place.
     pub fn next_word(self) -> Word
         requires { ⌜ length (now (self .command)) ≤ commandLimit ⌝ }
         ensures { λ w. ⌜ w ≡ wordFrom (now (self .entry .command)) (self .entry .at) ⌝ }
     {
         read_bulk(self.command, self.at)
     }
-
-    // Whether no byte is left at the reader's place.
-    pub fn at_end(self) -> bool
-        ensures { λ b. ⌜ b ≡ leb (length (now (self .entry .command))) (self .entry .at) ⌝ }
-    {
-        is_end(self.command, self.at)
-    }
 }
 
-// The word at place `at` of a command: where its bytes begin and end, and the place after it.
-pub fn read_word(s: &[u8], at: usize) -> Word
-    requires { ⌜ length (now s) ≤ commandLimit ⌝ }
-    ensures { λ r. ⌜ r ≡ wordFrom (now (s .entry)) at ⌝ }
+// Writes into `places` where word `i` begins and ends: the place after it, and 0 where there is no word.
+fn note(word: Word, i: usize, places: &mut [u16; 32]) -> usize
+    requires { ⌜ Notes word i (now places) ⌝ }
+    ensures { λ r. ⌜ noted word i (now (places .entry)) ≡ (now (places .exit), r) ⌝ }
 {
-    Reader::new(s, at).next_word()
+    let Word::At { start, end, next } = word else {
+        return 0;
+    };
+    places[i] = start as u16;
+    places[16 + i] = end as u16;
+    next
 }
 
-// Whether a command has no byte at place `at`, nor after it.
-fn ends_at(s: &[u8], at: usize) -> bool
-    ensures { λ r. ⌜ r ≡ leb (length (now (s .entry))) at ⌝ }
+// Reads `n` bulk strings from place `at` on into `places`, where word i begins at i and where it ends at 16 + i: whether they stand there, and
+// nothing after them.
+fn read_words(s: &[u8], at: usize, n: usize, places: &mut [u16; 32]) -> bool
+    requires { ⌜ Begins (now s) at n × (length (now places) ≡ 32) ⌝ }
+    ensures { λ r. ⌜ WordsRead (now (s .entry)) at n (now (places .exit)) r ⌝ }
 {
-    Reader::new(s, at).at_end()
-}
-
-// Whether `n` bulk strings stand from place `at` on, and nothing after them.
-fn has_words(s: &[u8], at: usize, n: usize) -> bool
-    requires { ⌜ length (now s) ≤ commandLimit ⌝ }
-    ensures { λ r. ⌜ r ≡ hasWords n (now (s .entry)) at ⌝ }
-{
-    let mut left = n;
-    let mut place = at;
-    while 0 < left {
-        let Word::At {
-            start: _,
-            end: _,
-            next,
-        } = read_word(s, place)
-        else {
+    let mut reader = Reader { command: s, at };
+    let mut i = 0;
+    while i < n {
+        let next = note(reader.next_word(), i, places);
+        if next == 0 {
             return false;
-        };
-        place = next;
-        left -= 1;
+        }
+        reader.at = next;
+        i += 1;
     }
-    ends_at(s, place)
+    is_end(s, reader.at)
 }
 
-// The number of words of a whole command, with nothing after the last.
-pub fn count_words(s: &[u8]) -> Count
-    ensures { λ r. ⌜ r ≡ countFrom (decode (now (s .entry))) ⌝ }
+// The number of words of a whole command, with nothing after the last; `places` says where they stand.
+pub fn split(s: &[u8], places: &mut [u16; 32]) -> Count
+    requires { ⌜ length (now places) ≡ 32 ⌝ }
+    ensures { λ r. ⌜ Split (now (s .entry)) (now (places .exit)) r ⌝ }
 {
     if 512 < s.len() {
         return Count::Malformed;
@@ -234,19 +223,41 @@ pub fn count_words(s: &[u8]) -> Count
     if 16 < value {
         return Count::Malformed;
     }
-    if has_words(s, next, value) {
+    if read_words(s, next, value, places) {
         return Count::Words(value);
     }
     Count::Malformed
 }
 
-// The place of the first word of a command of `count` words: after `*`, one or two digits and CR LF.
-pub fn first_word(count: usize) -> usize
-    requires { ⌜ count ≤ wordLimit ⌝ }
-    ensures { λ r. ⌜ r ≡ firstWord count ⌝ }
+// Where word `i` of a command stands.
+pub fn span_at(places: &[u16; 32], i: usize) -> Span
+    requires { ⌜ i < wordLimit ⌝ }
+    ensures { λ r. ⌜ r ≡ spanIn (now (places .entry)) i ⌝ }
 {
-    if count < 10 {
-        return 4;
+    Span {
+        start: places[i],
+        end: places[16 + i],
     }
-    5
+}
+
+// Word `i` of a command.
+pub fn word_at<'a>(s: &'a [u8], places: &[u16; 32], i: usize) -> &'a [u8]
+    requires { ⌜ Splits (now s) (now places) × (i < length (wordsOf (now s))) ⌝ }
+    ensures { λ r. ⌜ now r ≡ wordAt i (wordsOf (now (s .entry))) ⌝ }
+{
+    let w = span_at(places, i);
+    let start = w.start as usize;
+    let end = w.end as usize;
+    &s[start..end]
+}
+
+// Word `i` of a command of `count` words, and the empty part where there is none.
+pub fn word_or_empty<'a>(s: &'a [u8], places: &[u16; 32], count: usize, i: usize) -> &'a [u8]
+    requires { ⌜ Splits (now s) (now places) × (count ≡ length (wordsOf (now s))) ⌝ }
+    ensures { λ r. ⌜ now r ≡ wordAt i (wordsOf (now (s .entry))) ⌝ }
+{
+    if i < count {
+        return word_at(s, places, i);
+    }
+    &s[0..0]
 }

@@ -4,10 +4,12 @@ use crate::heading::follow;
 use crate::outcome::print_change;
 use crate::session::print_answer_number;
 use crate::session::send;
-use access::Answer;
-use table::RECORD_SIZE;
+use reply::Answer;
 use terminal::find;
 use terminal::print;
+
+// The bytes of a record.
+const RECORD_SIZE: usize = 128;
 
 // Sends a command to the first record of a table alone.
 fn send_to_first(table: &mut [u8], time: u64, line: &[u8]) -> Answer {

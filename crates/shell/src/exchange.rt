@@ -1,5 +1,5 @@
 // One command on a table in memory, and whether the table's file is to be written after it.
-use access::Answer;
+use reply::Answer;
 ghost use mathlib.Core.Path.{_≡_};
 ghost use Rattle.model.specs.Table.{form128};
 ghost use Rattle.model.specs.Call.{call};

@@ -1,4 +1,11 @@
 // The jobs of the command line.
+use crate::creation::init;
+use crate::listing::list;
+use crate::notice::REFUSED;
+use crate::notice::refuse;
+use crate::notice::refuse_call;
+use crate::notice::refuse_word;
+use crate::notice::usage;
 use crate::serve::serve;
 use commandline::Line;
 use commandline::ROOM;
@@ -7,13 +14,6 @@ use commandline::number_at;
 use commandline::path_at;
 use commandline::records_at;
 use libc::STDIN_FILENO;
-use maintenance::init;
-use maintenance::list;
-use notice::REFUSED;
-use notice::refuse;
-use notice::refuse_call;
-use notice::refuse_word;
-use notice::usage;
 use number::Natural;
 use tablefile::Loaded;
 use tablefile::put_new_name;

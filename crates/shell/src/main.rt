@@ -1,7 +1,10 @@
 // Commands on a table file, from the command line or from standard input. The script `pietrunel` at the repository's root runs this program:
 // it adds the time, and takes the exit status from descriptor 3.
+mod creation;
 mod exchange;
 mod job;
+mod listing;
+mod notice;
 mod serve;
 
 use commandline::read_line;

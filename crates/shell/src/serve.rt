@@ -2,11 +2,10 @@
 // table alone, since another process may have replaced the table in between.
 use crate::exchange::Exchange;
 use crate::exchange::carry_out;
-use access::Answer;
-use notice::REFUSED;
-use notice::refuse_call;
-use notice::status_of;
-use printed::print_reply;
+use crate::notice::REFUSED;
+use crate::notice::refuse_call;
+use crate::notice::status_of;
+use reply::Answer;
 use tablefile::Loaded;
 use tablefile::SPACE;
 use tablefile::begin;
@@ -14,8 +13,9 @@ use tablefile::cancel;
 use tablefile::finish;
 use tablefile::load;
 use terminal::print;
+use terminal::print_reply;
 ghost use mathlib.Core.Path.{_≡_};
-ghost use Rattle.notice.specs.Status.{statusOf};
+ghost use Rattle.shell.specs.Status.{statusOf};
 
 // The bytes of a new table's 16 empty records.
 const NEW_SIZE: usize = 2048;

@@ -3,7 +3,7 @@ use Prim.Native.Nat.{ℕ}
 use mathlib.Core.Path.{_≡_}
 use mathlib.Core.List.{List}
 use Rattle.model.specs.Call.{Outcome}
-use Rattle.access.specs.declared.Answer.{Answer}
+use Rattle.reply.specs.declared.Answer.{Answer}
 
 pub record Called (o : Outcome) (a : Answer) (t b : List ℕ) : Type 0 where
   pub number : a .number ≡ o .number

@@ -1,2 +1,4 @@
 pub mod Called
 pub mod Shows
+pub mod Gated
+pub mod Current

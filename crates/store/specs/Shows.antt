@@ -5,6 +5,14 @@ use mathlib.Core.Bool.{Bool}
 use mathlib.Core.List.{List}
 use denote.Ref.{RefT, now}
 use Rattle.model.specs.CurrentValue.{Shown, nothing, inTable, inCommand, isShown, shownBytes}
+use Rattle.store.specs.declared.current.Shown as code
+use Rattle.store.specs.declared.current.Shown.the-variants.{Nothing, InTable, InCommand}
+
+-- the model's value of an answer
+abbrev pub modelShown : code.Shown → Shown
+modelShown Nothing = nothing
+modelShown (InTable a n) = inTable a n
+modelShown (InCommand a n) = inCommand a n
 
 -- where a part begins, given where table and command begin: a block of memory and a place in it
 abbrev pub placeOf : (table command : ℕ × ℕ) → Shown → ℕ × ℕ

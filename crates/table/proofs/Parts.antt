@@ -1,107 +1,162 @@
--- The part of a table that is lent for record i, as the borrow checker writes `&table[i * 128..i * 128 + 128]`, is record i, and what a call
--- says of the part it says of slot i.
-use Prim.Native.Nat.{ℕ, _+_, _-_, _*_, _/_, _≤_, _<_}
+-- The part of a table that is slot i: what a call says of its bytes it says of the slot, and where it comes back with the bytes of a slot, the
+-- table is that of its slots with this one replaced.
+use Prim.Native.Nat.{ℕ, _+_, _-_, _*_, _≤_, _<_}
 use native.Mathlib.Omega.{arith}
 use mathlib.Core.Path.{_≡_, refl, sym, ap, subst, _∙_}
-use mathlib.Core.Bool.{true, false, not}
+use mathlib.Core.Bool.{Bool, true, false, not}
+use lib.Dec.{ltb}
+use borrow.Author.Tests.{ltb-true, ltb-false}
 use mathlib.Core.List.{List}
 use mathlib.Core.Option.{Option, some, Option·getD}
-use lib.ListN.{length, take, drop, getD}
-use Rattle.model.specs.Bytes.{part, padded, fromLittleEndian}
-use Rattle.model.specs.Table.{Slot, empty, used, isEmpty, isExpired, live, fields, form128, readTable, readSlot, slotBytes, recordAt}
-use Rattle.model.specs.Command.{isSome}
-use Rattle.model.proofs.Records.{in-use-readSlot}
-use Rattle.slice.proofs.Written.{length-part, part-is}
-use Rattle.slice.proofs.LittleEndian.{Bytes, bytes-take, bytes-drop}
-use Rattle.record.specs.Record.{slotOf, Readable, InUse}
+use lib.ListN.{length, getD, getElem?, take, drop, replicate, replicate-append-replicate}
+use borrow.Rule.Slice.PartMut.{putMid}
+use Rattle.model.specs.Bytes.{part, padded, written, fromLittleEndian}
+use Rattle.model.specs.Table.{Form, Slot, Record, empty, used, isEmpty, fields, recordSize, recordBytes, slotBytes, recordAt, holds}
+use Rattle.model.specs.Search.{isExpired, live, ahead}
+use Rattle.model.specs.Optional.{isSome}
+use Rattle.model.proofs.Basics.{at-getD, at-length}
+use Rattle.model.proofs.Records.{InRange, Kept, in-use-readSlot}
+use Rattle.model.proofs.Tables.{all-at, tableBytes-set}
+use Rattle.slice.proofs.Written.{length-part, part-is, part-back, drop-replicate}
+use Rattle.record.specs.Forms.{Lawful}
+use Rattle.record.specs.Record.{asSlot, Readable, InUseOf, InUse, IsSlot, Fits, Changed, WordsOf, beginsWith}
 use Rattle.record.proofs.Checking.{in-use-key}
-use Rattle.table.specs.Slots.{slotsOf}
-use Rattle.table.proofs.Records.{table-length, slot-bytes, slot-at}
+use Rattle.record.proofs.KeyWords.{beginsLike, holds-key, other-key}
+use Rattle.table.specs.Slots.{Reads, Inside, slotsOf, NoneBegins, recordOf, recordIn, InUseAt, withSlot, IsRecord}
+use Rattle.table.proofs.Records.{table-of, inside-table, slot-bytes, slot-at}
 
--- the part that is lent for record i
-abbrev pub lent : ℕ → List ℕ → List ℕ
-lent i t = take (i * 128 + 128 - i * 128) (drop (i * 128) t)
+-- the part that code borrows for slot i: it begins at i times the size, and is as long as the size
+pub record Borrows (f : Form) (i from n : ℕ) : Type 0 where
+  pub begins : from ≡ i * recordSize f
+  pub size : n ≡ recordSize f
 
-pub lent-is : (i : ℕ) (t : List ℕ) → lent i t ≡ recordAt form128 i t
-lent-is i t = part-is (i * 128) 128 t
+pub borrowed : (f : Form) (t : List ℕ) (i from n : ℕ) → Borrows f i from n → take (from + n - from) (drop from t) ≡ recordAt f i t
+borrowed f t i from n p = part-is from n t ∙ (λ j. part (p .begins j) (p .size j) t)
 
-pub lent-length : (i : ℕ) (t : List ℕ) → i * 128 + 128 ≤ length t → length (lent i t) ≡ 128
-lent-length i t h = rw (lent-is i t) (length-part (i * 128) 128 t h)
+pub length-slot : (f : Form) (t : List ℕ) (i : ℕ) → Inside f t i → length (recordAt f i t) ≡ recordSize f
+length-slot f t i h = length-part (i * recordSize f) (recordSize f) t h
 
-pub bytes-lent : (i : ℕ) (t : List ℕ) → Bytes t → Bytes (lent i t)
-bytes-lent i t h = bytes-take (i * 128 + 128 - i * 128) (drop (i * 128) t) (bytes-drop (i * 128) t h)
+-- zeros have no expiry
+zeros-expiry : (n : ℕ) → 24 ≤ n → fields (replicate n 0) .expiry ≡ 0
+unfolding fromLittleEndian
+zeros-expiry n h =
+    let m : n - 16 ≡ 8 + (n - 24) = omega arith in
+    rw (drop-replicate 16 n 0, m, ← replicate-append-replicate 8 (n - 24))
 
-module _ (t : List ℕ) (ok : isSome (readTable form128 t) ≡ true) where
-  pub count : length t / 128 ≡ length (slotsOf t)
-  count = omega (arith, table-length t ok)
+-- ---- a slot of a table that reads
 
-  module _ (i : ℕ) (h : i < length (slotsOf t)) where
-    read : readSlot form128 (lent i t) ≡ some (getD (slotsOf t) i empty)
-    read = rw (lent-is i t) (slot-at t ok i h)
+module _ (f : Form) (t : List ℕ) (ok : Reads f t) (i : ℕ) (h : i < length (slotsOf f t)) where
+  -- the bytes are those of the slot
+  pub slot-is : asSlot f (recordAt f i t) ≡ getD (slotsOf f t) i empty
+  slot-is = ap (λ (o : Option Slot). Option·getD o empty) (slot-at f t ok i h)
 
-    size : length (lent i t) ≡ 128
-    size = lent-length i t (omega (arith, table-length t ok))
+  pub slot-readable : Readable f (recordAt f i t)
+  slot-readable = record { size = length-slot f t i (inside-table f t ok i h); read = ap isSome (slot-at f t ok i h) }
 
-    pub lent-slot : slotOf (lent i t) ≡ getD (slotsOf t) i empty
-    lent-slot = ap (λ (o : Option Slot). Option·getD o empty) read
+  pub is-slot : Lawful f → IsSlot (recordAt f i t)
+  is-slot l = record { form = f; lawful = l; is = slot-readable }
 
-    pub lent-bytes : slotBytes form128 (getD (slotsOf t) i empty) ≡ lent i t
-    lent-bytes = rw (lent-is i t) (sym (slot-bytes t ok i h))
+  -- an empty record is live, since it has no expiry
+  pub slot-expired : (time : ℕ) → not (live time (fields (recordAt f i t))) ≡ isExpired time (getD (slotsOf f t) i empty)
+  unfolding fromLittleEndian
+  slot-expired time =
+      go (getD (slotsOf f t) i empty) (sym (slot-bytes f t ok i h)) (in-use-readSlot f (recordAt f i t) (getD (slotsOf f t) i empty) (slot-at f t ok i h))
+    where
+      go : (s : Slot) → slotBytes f s ≡ recordAt f i t → (isEmpty s ≡ false → s ≡ used (fields (recordAt f i t)))
+          → not (live time (fields (recordAt f i t))) ≡ isExpired time s
+      go empty e u = ap (λ (x : ℕ). not (ahead time x)) (ap (λ (b : List ℕ). fields b .expiry) (sym e) ∙ zeros-expiry (recordSize f) (omega arith))
+      go (used r) e u = ap (isExpired time) (sym (u refl))
 
-    -- an empty record is live, since it has no expiry
-    pub lent-expired : (now : ℕ) → not (live now (fields (lent i t))) ≡ isExpired now (getD (slotsOf t) i empty)
-    unfolding fromLittleEndian
-    lent-expired now = go (getD (slotsOf t) i empty) lent-bytes (in-use-readSlot form128 (lent i t) (getD (slotsOf t) i empty) read)
-      where
-        go : (s : Slot) → slotBytes form128 s ≡ lent i t → (isEmpty s ≡ false → s ≡ used (fields (lent i t)))
-            → not (live now (fields (lent i t))) ≡ isExpired now s
-        go empty e u = ap (λ (b : List ℕ). not (live now (fields b))) (sym e)
-        go (used r) e u = ap (isExpired now) (sym (u refl))
+  module _ (u : isEmpty (getD (slotsOf f t) i empty) ≡ false) where
+    pub slot-used : getD (slotsOf f t) i empty ≡ used (fields (recordAt f i t))
+    slot-used = in-use-readSlot f (recordAt f i t) (getD (slotsOf f t) i empty) (slot-at f t ok i h) u
 
-    pub lent-readable : Readable (lent i t)
-    lent-readable = record { size = size; read = ap isSome read }
+    pub slot-in-use : InUseOf f (recordAt f i t)
+    slot-in-use = record { size = slot-readable .size; read = slot-at f t ok i h ∙ ap {B = Option Slot} some slot-used }
 
-    module _ (u : isEmpty (getD (slotsOf t) i empty) ≡ false) where
-      pub slot-used : getD (slotsOf t) i empty ≡ used (fields (lent i t))
-      slot-used = in-use-readSlot form128 (lent i t) (getD (slotsOf t) i empty) read u
+    -- the key with the zeros after it
+    pub slot-key : part 24 24 (recordAt f i t) ≡ padded 24 (fields (recordAt f i t) .key)
+    slot-key = in-use-key f (recordAt f i t) slot-in-use
 
-      pub lent-in-use : InUse (lent i t)
-      lent-in-use = record { size = size; read = read ∙ ap {B = Option Slot} some slot-used }
+  -- the part comes back with the bytes of a slot
+  pub replaced : (from n : ℕ) → Borrows f i from n → (s : Slot) (r : List ℕ) → r ≡ slotBytes f s → length r ≡ length (take (from + n - from) (drop from t))
+      → putMid from (from + n - from) t r ≡ withSlot f t i s
+  replaced from n p s r e kept =
+      let size : length r ≡ recordSize f = kept ∙ ap length (borrowed f t i from n p) ∙ slot-readable .size in
+      part-back from n t r (size ∙ sym (p .size))
+      ∙ (λ j. written (p .begins j) (e j) (sym (table-of f t ok .bytes) j))
+      ∙ sym (tableBytes-set f (slotsOf f t) i s (table-of f t ok .kept) h (ap length (sym e) ∙ size))
 
-      -- the key with the zeros after it
-      pub lent-key : part 24 24 (lent i t) ≡ padded 24 (fields (lent i t) .key)
-      lent-key = in-use-key (lent i t) lent-in-use
+-- one record more that does not begin with the words
+pub none-next : (a b : ℕ) (f : Form) (t : List ℕ) (i n : ℕ) → NoneBegins a b f t i n → beginsWith a b (recordAt f n t) ≡ false → NoneBegins a b f t i (n + 1)
+none-next a b f t i n before here j low high = go (ltb j n) refl
+  where
+    go : (x : Bool) → ltb j n ≡ x → beginsWith a b (recordAt f j t) ≡ false
+    go true e = before j low (ltb-true j n e)
+    go false e =
+        let is : n ≡ j = omega (arith, ltb-false j n e) in
+        subst (λ (m : ℕ). beginsWith a b (recordAt f m t) ≡ false) is here
 
--- ---- the record that ends at a place, as the borrow checker writes `&table[end - 128..end]`
+-- a record whose key does not begin with a key's words does not hold the key
+pub none-holds : (f : Form) (t : List ℕ) → Reads f t → (k : List ℕ) (a b i n : ℕ) → WordsOf k a b → n ≤ length (slotsOf f t) → NoneBegins a b f t i n
+    → (j : ℕ) → i ≤ j → j < n → holds k (getD (slotsOf f t) j empty) ≡ false
+none-holds f t ok k a b i n w h others j low high =
+    let r = slot-readable f t ok j (omega arith) in
+    let other : beginsLike k (recordAt f j t) ≡ false = (λ x. beginsWith (sym (w .low) x) (sym (w .high) x) (recordAt f j t)) ∙ others j low high in
+    ap (holds k) (sym (slot-is f t ok j (omega arith))) ∙ sym (holds-key f k (recordAt f j t) r) ∙ other-key f k (recordAt f j t) r other
 
-abbrev pub ending : (end : ℕ) → List ℕ → List ℕ
-ending end t = take (end - (end - 128)) (drop (end - 128) t)
+-- ---- a slot in use
 
-module _ (t : List ℕ) (ok : isSome (readTable form128 t) ≡ true) (end : ℕ) (whole : end / 128 * 128 ≡ end) (h : 0 < end) (fits : end ≤ length t) where
-  abbrev slot : ℕ
-  slot = (end - 128) / 128
+-- for a caller that knows the record at the slot
+module _ (f : Form) (t : List ℕ) (i : ℕ) (r : Record) (e : getElem? (slotsOf f t) i ≡ some (used r)) where
+  pub record-in : recordIn f t i ≡ r
+  record-in = ap recordOf (at-getD (slotsOf f t) i (used r) empty e)
 
-  ending-within : slot < length (slotsOf t)
-  ending-within = omega (arith, table-length t ok)
+  pub in-use-at : InUseAt f t i
+  in-use-at = e ∙ ap (λ (x : Record). some (used x)) (sym record-in)
 
-  ending-is : lent slot t ≡ ending end t
-  ending-is =
-      let from : slot * 128 ≡ end - 128 = omega arith in
-      let size : slot * 128 + 128 - slot * 128 ≡ end - (end - 128) = omega arith in
-      ap (λ (n : ℕ). take n (drop (slot * 128) t)) size ∙ ap (λ (n : ℕ). take (end - (end - 128)) (drop n t)) from
+-- it is one of the slots
+pub within : (f : Form) (t : List ℕ) (i : ℕ) → InUseAt f t i → i < length (slotsOf f t)
+within f t i u = at-length (slotsOf f t) i (used (recordIn f t i)) u
 
-  pub ending-readable : Readable (ending end t)
-  ending-readable = subst Readable ending-is (lent-readable t ok slot ending-within)
+module _ (f : Form) (t : List ℕ) (ok : Reads f t) (i : ℕ) (u : InUseAt f t i) where
+  -- and its record is in range
+  pub in-range : InRange f (recordIn f t i)
+  in-range = all-at (Kept f) (slotsOf f t) i (used (recordIn f t i)) (table-of f t ok .kept) u
 
-  pub ending-slot : slotOf (ending end t) ≡ getD (slotsOf t) slot empty
-  ending-slot = ap slotOf (sym ending-is) ∙ lent-slot t ok slot ending-within
+  here : i < length (slotsOf f t)
+  here = within f t i u
 
-  module _ (u : isEmpty (getD (slotsOf t) slot empty) ≡ false) where
-    pub ending-used : getD (slotsOf t) slot empty ≡ used (fields (ending end t))
-    ending-used = slot-used t ok slot ending-within u ∙ ap (λ (b : List ℕ). used (fields b)) ending-is
+  full : isEmpty (getD (slotsOf f t) i empty) ≡ false
+  full = ap isEmpty (at-getD (slotsOf f t) i (used (recordIn f t i)) empty u)
 
-    pub ending-in-use : InUse (ending end t)
-    ending-in-use = subst InUse ending-is (lent-in-use t ok slot ending-within u)
+  pub slot-fields : fields (recordAt f i t) ≡ recordIn f t i
+  slot-fields = sym (ap recordOf (slot-used f t ok i here full))
 
-    pub ending-key : part 24 24 (ending end t) ≡ padded 24 (fields (ending end t) .key)
-    ending-key = in-use-key (ending end t) ending-in-use
+  of-form : InUseOf f (recordAt f i t)
+  of-form = slot-in-use f t ok i here full
+
+  -- the bytes of the slot, however they were come by
+  pub is-record : Lawful f → (b : List ℕ) → b ≡ recordAt f i t → IsRecord f t i b
+  is-record l b e = record {
+    bytes = e;
+    in-use = subst InUse (sym e) (record { form = f; lawful = l; is = of-form });
+    is = ap fields e ∙ slot-fields;
+  }
+
+  module _ (from n : ℕ) (p : Borrows f i from n) where
+    pub in-use : Lawful f → InUse (take (from + n - from) (drop from t))
+    in-use l = is-record l (take (from + n - from) (drop from t)) (borrowed f t i from n p) .in-use
+
+    -- there is room for s in the borrowed record, as in the slot's
+    pub room : (s : List ℕ) → length (recordIn f t i .value) + length s ≤ f .valueLimit → Fits (take (from + n - from) (drop from t)) s
+    room s h =
+        let v : length (fields (recordAt f i t) .value) ≡ length (recordIn f t i .value) = ap (λ (r : Record). length (r .value)) slot-fields in
+        subst (λ (b : List ℕ). Fits b s) (sym (borrowed f t i from n p)) (omega (arith, v, of-form .size))
+
+    -- the borrowed record comes back changed by g: so is the slot's
+    pub changed : (g : Record → Record) (b : List ℕ) → Changed g (take (from + n - from) (drop from t)) b → length b ≡ length (take (from + n - from) (drop from t))
+        → putMid from (from + n - from) t b ≡ withSlot f t i (used (g (recordIn f t i)))
+    changed g b c kept =
+        let done : Changed g (recordAt f i t) b = subst (λ (x : List ℕ). Changed g x b) (borrowed f t i from n p) c in
+        replaced f t ok i here from n p (used (g (recordIn f t i))) b (done f of-form ∙ ap (λ (r : Record). recordBytes f (g r)) slot-fields) kept

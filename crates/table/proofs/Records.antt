@@ -1,6 +1,6 @@
 -- A table that reads, by its slots, and the check that it does, record by record.
 use Prim.Native.Nat.{ℕ, suc, _+_, _-_, _*_, _/_, _≤_, _<_}
-use native.Mathlib.Nat.{zero-mul, suc-mul, sub-zero}
+use native.Mathlib.Nat.{zero-mul, suc-mul, sub-zero, mul-le-mul-right, mul-div-cancel}
 use native.Mathlib.Numerals.{add-one}
 use native.Mathlib.Omega.{arith}
 use mathlib.Core.Path.{_≡_, refl, sym, ap, _∙_}
@@ -11,39 +11,49 @@ use lib.ListN.{length, drop, getD, getElem?}
 use lib.Seq.{drop-drop}
 use Rattle.model.specs.Bytes.{all}
 use Rattle.model.specs.Optional.{_>>=_}
-use Rattle.model.specs.Table.{Form, Slot, empty, form128, recordSize, slotBytes, recordAt, readSlot, readSlots, sizeRules, readTable}
-use Rattle.model.specs.Command.{isSome}
+use Rattle.model.specs.Table.{Form, Slot, empty, recordSize, slotBytes, recordAt, readSlot, readSlots, sizeRules, readTable}
+use Rattle.model.specs.Optional.{isSome}
 use Rattle.model.proofs.Basics.{never, at-within}
 use Rattle.model.proofs.Records.{Kept, readSlot-slotBytes}
 use Rattle.model.proofs.Tables.{WasTable, tableBytes-readTable, length-tableBytes, recordAt-tableBytes, all-at}
-use Rattle.table.specs.Slots.{slotsOf}
+use Rattle.table.specs.Slots.{Reads, Inside, slotsOf}
 
 -- ---- the slots of a table that reads
 
-pub slots-of : (t : List ℕ) → isSome (readTable form128 t) ≡ true → readTable form128 t ≡ some (slotsOf t)
+pub slots-of : (f : Form) (t : List ℕ) → Reads f t → readTable f t ≡ some (slotsOf f t)
 unfolding slotsOf
-slots-of t h = by (readTable form128 t) h
+slots-of f t h = by (readTable f t) h
   where
     by : (o : Option (List Slot)) → isSome o ≡ true → o ≡ some (Option·getD o [])
     by none h = never false h refl
     by (some ss) h = refl
 
-module _ (t : List ℕ) (ok : isSome (readTable form128 t) ≡ true) where
-  pub table-of : WasTable form128 t (slotsOf t)
-  table-of = tableBytes-readTable form128 t (slotsOf t) (slots-of t ok)
+-- record i of n lies within n records: the one law about places
+pub inside : (f : Form) (n i : ℕ) → i < n → i * recordSize f + recordSize f ≤ n * recordSize f
+inside f n i h = rw (← suc-mul i (recordSize f)) (mul-le-mul-right (recordSize f) h)
 
-  pub table-length : length t ≡ length (slotsOf t) * 128
-  table-length = ap length (sym (table-of .bytes)) ∙ length-tableBytes form128 (slotsOf t) (table-of .kept)
+module _ (f : Form) (t : List ℕ) (ok : Reads f t) where
+  pub table-of : WasTable f t (slotsOf f t)
+  table-of = tableBytes-readTable f t (slotsOf f t) (slots-of f t ok)
 
-  module _ (i : ℕ) (h : i < length (slotsOf t)) where
-    there : getElem? (slotsOf t) i ≡ some (getD (slotsOf t) i empty)
-    there = at-within (slotsOf t) i empty h
+  pub table-length : length t ≡ length (slotsOf f t) * recordSize f
+  table-length = ap length (sym (table-of .bytes)) ∙ length-tableBytes f (slotsOf f t) (table-of .kept)
 
-    pub slot-bytes : recordAt form128 i t ≡ slotBytes form128 (getD (slotsOf t) i empty)
-    slot-bytes = ap (recordAt form128 i) (sym (table-of .bytes)) ∙ recordAt-tableBytes form128 (slotsOf t) i _ (table-of .kept) there
+  pub count-is : length t / recordSize f ≡ length (slotsOf f t)
+  count-is = rw table-length (mul-div-cancel (length (slotsOf f t)) {n = recordSize f} (omega arith))
 
-    pub slot-at : readSlot form128 (recordAt form128 i t) ≡ some (getD (slotsOf t) i empty)
-    slot-at = ap (readSlot form128) slot-bytes ∙ readSlot-slotBytes form128 _ (all-at (Kept form128) (slotsOf t) i _ (table-of .kept) there)
+  module _ (i : ℕ) (h : i < length (slotsOf f t)) where
+    pub inside-table : Inside f t i
+    inside-table = rw table-length (inside f (length (slotsOf f t)) i h)
+
+    there : getElem? (slotsOf f t) i ≡ some (getD (slotsOf f t) i empty)
+    there = at-within (slotsOf f t) i empty h
+
+    pub slot-bytes : recordAt f i t ≡ slotBytes f (getD (slotsOf f t) i empty)
+    slot-bytes = ap (recordAt f i) (sym (table-of .bytes)) ∙ recordAt-tableBytes f (slotsOf f t) i _ (table-of .kept) there
+
+    pub slot-at : readSlot f (recordAt f i t) ≡ some (getD (slotsOf f t) i empty)
+    slot-at = ap (readSlot f) slot-bytes ∙ readSlot-slotBytes f _ (all-at (Kept f) (slotsOf f t) i _ (table-of .kept) there)
 
 -- ---- the check, record by record
 

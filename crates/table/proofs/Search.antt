@@ -1,25 +1,24 @@
 -- The lowest slot that passes a test, as a loop from slot 0 upward finds it: while no slot passed the test, the answer of the whole table is
 -- the answer of the slots that are left, counted from where they begin.
-use Prim.Native.Nat.{ℕ, zero, suc, _+_, _≤_, _<_}
+use Prim.Native.Nat.{ℕ, zero, suc, _+_, _-_, _≤_, _<_}
 use native.Mathlib.Nat.{zero-add, add-zero}
 use native.Mathlib.Numerals.{add-one}
 use native.Mathlib.Omega.{arith}
-use mathlib.Core.Path.{_≡_, refl, sym, ap, _∙_}
+use mathlib.Core.Path.{_≡_, refl, sym, ap, subst, _∙_}
 use mathlib.Core.Bool.{Bool, true, false, cond, _||_}
 use mathlib.Core.List.{List, [], _∷_}
-use mathlib.Core.Option.{Option, none, some, Option·map, map-map}
+use mathlib.Core.Option.{Option, none, some, Option·map}
 use lib.ListN.{length, drop, getD, drop-of-length-le}
 use lib.Seq.{drop-cons}
-use Rattle.model.specs.Bytes.{same}
-use Rattle.model.specs.Optional.{orElse}
-use Rattle.model.specs.Table.{form128, Slot, empty, used, Found as Hit, oneOn, findKey, holds, anyHolds, lowest, isEmpty, isExpired, slotFor}
-use Rattle.model.specs.Command.{isSome}
+use Rattle.model.specs.Optional.{isSome, orElse}
+use Rattle.model.specs.Table.{Form, Slot, empty, used, holds, anyHolds, isEmpty}
+use Rattle.model.specs.Search.{lowest, isExpired, freeSlot}
+use Rattle.model.proofs.Basics.{at-length}
 use Rattle.model.proofs.Records.{Kept}
 use Rattle.model.proofs.Tables.{All}
-use Rattle.model.proofs.Search.{slotFor-own}
+use Rattle.model.proofs.Search.{lowest-holds, lowest-first}
 use Rattle.slice.proofs.Equal.{other-length}
-use Rattle.table.specs.Slots.{foundFrom, keySlot, lowestFrom}
-use Rattle.table.specs.declared.Found.the-variants.{At, Nothing}
+use Rattle.table.specs.Slots.{keySlot, lowestFrom}
 
 abbrev shifted : ℕ → Option ℕ → Option ℕ
 shifted i o = Option·map (λ (j : ℕ). i + j) o
@@ -57,50 +56,45 @@ pub record Searched (p : Slot → Bool) (ss : List Slot) (o : Option ℕ) (n i :
   pub left : o ≡ lowestFrom p ss i
 
 module _ {p : Slot → Bool} {ss : List Slot} {o : Option ℕ} {n i : ℕ} (q : Searched p ss o n i) where
-  pub search-end : n ≤ i → Nothing ≡ foundFrom o
-  search-end h = sym (ap foundFrom (q .left ∙ lowest-end p ss i (omega arith)))
+  pub search-end : n ≤ i → none ≡ o
+  search-end h = sym (q .left ∙ lowest-end p ss i (omega arith))
 
   module _ (h : i < n) where
-    pub search-here : p (getD ss i empty) ≡ true → At i ≡ foundFrom o
-    search-here e = sym (ap foundFrom (q .left ∙ lowest-here p ss i (omega arith) e))
+    pub search-here : p (getD ss i empty) ≡ true → some i ≡ o
+    search-here e = sym (q .left ∙ lowest-here p ss i (omega arith) e)
 
     pub search-next : p (getD ss i empty) ≡ false → Searched p ss o n (i + 1)
     search-next e = record { within = omega arith; all = q .all; left = q .left ∙ lowest-next p ss i (omega arith) e }
 
+-- slots that are known not to pass are passed over
+search-over : {p : Slot → Bool} {ss : List Slot} {o : Option ℕ} {n : ℕ} (d i : ℕ) → Searched p ss o n i → i + d ≤ n
+    → ((j : ℕ) → i ≤ j → j < i + d → p (getD ss j empty) ≡ false) → Searched p ss o n (i + d)
+search-over {p} {ss} {o} {n} zero i q h fails = subst (Searched p ss o n) (sym (add-zero i)) q
+search-over {p} {ss} {o} {n} (suc d) i q h fails =
+    let e : i + 1 + d ≡ i + suc d = omega arith in
+    subst (Searched p ss o n) e (search-over d (i + 1) (search-next q (omega arith) (fails i (omega arith) (omega arith))) (omega arith) (λ j a b. fails j (omega arith) (omega arith)))
+
+pub search-on : {p : Slot → Bool} {ss : List Slot} {o : Option ℕ} {n i : ℕ} (m : ℕ) → Searched p ss o n i → i ≤ m → m ≤ n
+    → ((j : ℕ) → i ≤ j → j < m → p (getD ss j empty) ≡ false) → Searched p ss o n m
+search-on {p} {ss} {o} {n} {i} m q low high fails =
+    let e : i + (m - i) ≡ m = omega arith in
+    subst (Searched p ss o n) e (search-over (m - i) i q (omega arith) (λ j a b. fails j a (omega arith)))
+
 -- no record has a key longer than 24 bytes
-lowest-long : (k : List ℕ) → 24 < length k → (ss : List Slot) → All (Kept form128) ss → lowest (holds k) ss ≡ none
+lowest-long : (f : Form) (k : List ℕ) → 24 < length k → (ss : List Slot) → All (Kept f) ss → lowest (holds k) ss ≡ none
 unfolding lowest
-lowest-long k h [] a = refl
-lowest-long k h (empty ∷ ss) a = rw (lowest-long k h ss (a .1))
-lowest-long k h (used r ∷ ss) a = rw (other-length k (r .key) (λ e. omega (arith, a .0 .key-to)), lowest-long k h ss (a .1))
+lowest-long f k h [] a = refl
+lowest-long f k h (empty ∷ ss) a = rw (lowest-long f k h ss (a .1))
+lowest-long f k h (used r ∷ ss) a = rw (other-length k (r .key) (λ e. omega (arith, a .0 .key-to)), lowest-long f k h ss (a .1))
 
-all-drop : (ss : List Slot) (i : ℕ) → All (Kept form128) ss → All (Kept form128) (drop i ss)
-all-drop ss zero a = a
-all-drop [] (suc i) a = tt
-all-drop (s ∷ ss) (suc i) a = all-drop ss i (a .1)
+all-drop : (f : Form) (ss : List Slot) (i : ℕ) → All (Kept f) ss → All (Kept f) (drop i ss)
+all-drop f ss zero a = a
+all-drop f [] (suc i) a = tt
+all-drop f (s ∷ ss) (suc i) a = all-drop f ss i (a .1)
 
-pub long-none : (k : List ℕ) (ss : List Slot) (i : ℕ) → 24 < length k → All (Kept form128) ss → lowestFrom (holds k) ss i ≡ none
+pub long-none : (f : Form) (k : List ℕ) (ss : List Slot) (i : ℕ) → 24 < length k → All (Kept f) ss → lowestFrom (holds k) ss i ≡ none
 unfolding lowestFrom
-long-none k ss i h a = rw (lowest-long k h (drop i ss) (all-drop ss i a))
-
-abbrev number : Hit → ℕ
-number o = o .at
-
-one-on : (o : Option Hit) → Option·map number (Option·map oneOn o) ≡ Option·map suc (Option·map number o)
-one-on o = map-map number oneOn o ∙ sym (map-map suc number o)
-
--- the search for a key is the search for the lowest slot that holds it
-pub key-lowest : (k : List ℕ) (ss : List Slot) → keySlot k ss ≡ lowest (holds k) ss
-unfolding findKey lowest
-key-lowest k [] = refl
-key-lowest k (empty ∷ ss) = one-on (findKey k ss) ∙ ap (Option·map suc) (key-lowest k ss)
-key-lowest k (used r ∷ ss) = by (same k (r .key)) (one-on (findKey k ss) ∙ ap (Option·map suc) (key-lowest k ss))
-  where
-    by : (b : Bool) → Option·map number (Option·map oneOn (findKey k ss)) ≡ Option·map suc (lowest (holds k) ss)
-        → Option·map number (cond b (some (record { at = 0; rec = r })) (Option·map oneOn (findKey k ss)))
-        ≡ cond b (some 0) (Option·map suc (lowest (holds k) ss))
-    by true e = refl
-    by false e = e
+long-none f k ss i h a = rw (lowest-long f k h (drop i ss) (all-drop f ss i a))
 
 same-some : (g : ℕ → ℕ) (o : Option ℕ) → isSome (Option·map g o) ≡ isSome o
 same-some g none = refl
@@ -118,42 +112,40 @@ held k (s ∷ ss) = by (holds k s) (held k ss ∙ sym (same-some suc (lowest (ho
 
 -- ---- answers
 
-pub found-at : (o : Option ℕ) (i : ℕ) → foundFrom o ≡ At i → o ≡ some i
-found-at none i e = let z : _≡_ {A = ℕ} 0 1 = cc in absurd (omega arith)
-found-at (some j) i e = cc
-
-pub found-nothing : (o : Option ℕ) → foundFrom o ≡ Nothing → o ≡ none
-found-nothing none e = refl
-found-nothing (some j) e = let z : _≡_ {A = ℕ} 0 1 = cc in absurd (omega arith)
-
 -- what a search from the i-th slot on says of the slots from there
 module _ (k : List ℕ) (ss : List Slot) (i : ℕ) where
   held-from : anyHolds k (drop i ss) ≡ isSome (lowestFrom (holds k) ss i)
   unfolding lowestFrom
   held-from = held k (drop i ss) ∙ sym (same-some (λ (j : ℕ). i + j) (lowest (holds k) (drop i ss)))
 
-  pub not-held : foundFrom (lowestFrom (holds k) ss i) ≡ Nothing → anyHolds k (drop i ss) ≡ false
-  not-held e = held-from ∙ ap isSome (found-nothing (lowestFrom (holds k) ss i) e)
+  pub not-held : none ≡ lowestFrom (holds k) ss i → anyHolds k (drop i ss) ≡ false
+  not-held e = held-from ∙ ap isSome (sym e)
 
-  pub is-held : (j : ℕ) → foundFrom (lowestFrom (holds k) ss i) ≡ At j → anyHolds k (drop i ss) ≡ true
-  is-held j e = held-from ∙ ap isSome (found-at (lowestFrom (holds k) ss i) j e)
+  pub is-held : (j : ℕ) → some j ≡ lowestFrom (holds k) ss i → anyHolds k (drop i ss) ≡ true
+  is-held j e = held-from ∙ ap isSome (sym e)
 
--- ---- the slot that a write takes
+-- the search for a key from slot 0 on
+pub key-lowest : (k : List ℕ) (ss : List Slot) → keySlot k ss ≡ lowestFrom (holds k) ss 0
+key-lowest k ss = sym (lowest-holds k ss) ∙ lowest-start (holds k) ss
 
+-- an empty slot, else an expired one
 module _ (now : ℕ) (ss : List Slot) where
-  -- an empty slot, else an expired one
-  abbrev free : Option ℕ
-  free = orElse (lowest isEmpty ss) (lowest (isExpired now) ss)
+  pub free-empty : (i : ℕ) → some i ≡ lowest isEmpty ss → some i ≡ freeSlot now ss
+  unfolding freeSlot
+  free-empty i e = rw (sym e)
 
-  pub free-empty : (i : ℕ) → foundFrom (lowest isEmpty ss) ≡ At i → foundFrom free ≡ At i
-  free-empty i e = rw (found-at (lowest isEmpty ss) i e)
+  pub free-expired : none ≡ lowest isEmpty ss → lowest (isExpired now) ss ≡ freeSlot now ss
+  unfolding freeSlot
+  free-expired e = rw (sym e)
 
-  pub free-expired : foundFrom (lowest isEmpty ss) ≡ Nothing → free ≡ lowest (isExpired now) ss
-  free-expired e = rw (found-nothing (lowest isEmpty ss) e)
+  -- a free slot is one of the slots
+  pub free-within : (i : ℕ) → some i ≡ freeSlot now ss → i < length ss
+  unfolding freeSlot
+  free-within i e = by (lowest isEmpty ss) refl e
+    where
+      lowest-within : (p : Slot → Bool) → lowest p ss ≡ some i → i < length ss
+      lowest-within p h = let w = lowest-first p ss i h in at-length ss i (w .slot) (w .there)
 
-  pub slot-own : (k : List ℕ) (i : ℕ) → foundFrom (keySlot k ss) ≡ At i → foundFrom (slotFor now k ss) ≡ At i
-  slot-own k i e = ap foundFrom (slotFor-own now k ss i (sym (key-lowest k ss) ∙ found-at (keySlot k ss) i e))
-
-  pub slot-free : (k : List ℕ) → foundFrom (keySlot k ss) ≡ Nothing → slotFor now k ss ≡ free
-  unfolding slotFor
-  slot-free k e = rw (sym (key-lowest k ss) ∙ found-nothing (keySlot k ss) e)
+      by : (o : Option ℕ) → lowest isEmpty ss ≡ o → some i ≡ orElse o (lowest (isExpired now) ss) → i < length ss
+      by (some j) q h = lowest-within isEmpty (q ∙ sym h)
+      by none q h = lowest-within (isExpired now) (sym h)

@@ -1,71 +1,85 @@
-// The search for a key, and the choice of the slot that a write takes.
+// The search for a key, and for a slot that a new record may take.
 use crate::Found;
-use crate::RECORD_SIZE;
+use record::Form;
+use record::KEY_LIMIT;
 ghost use Prim.Native.Nat.{_≤_};
 ghost use mathlib.Core.Path.{_≡_};
-ghost use mathlib.Core.Bool.{true};
 ghost use lib.ListN.{length};
-ghost use Rattle.model.specs.Optional.{orElse};
-ghost use Rattle.model.specs.Table.{form128, readTable, holds, lowest, isEmpty, isExpired, slotFor};
-ghost use Rattle.model.specs.Command.{isSome};
-ghost use Rattle.table.specs.Slots.{slotsOf, foundFrom, keySlot, lowestFrom, WordsOf};
+ghost use Rattle.model.specs.Table.{holds, isEmpty};
+ghost use Rattle.model.specs.Search.{lowest, isExpired, freeSlot};
+ghost use Rattle.record.specs.Forms.{formOf};
+ghost use Rattle.record.specs.Record.{WordsOf};
+ghost use Rattle.table.specs.Slots.{Reads, slotsOf, slotOf, keySlot, lowestFrom, NoneBegins};
 
-// The lowest slot from `first` on whose record in use has the key. No record has a key longer than 24 bytes; any other is compared as three
-// words, with zeros after it.
-pub fn find_from(table: &[u8], first: usize, key: &[u8]) -> Found
-    requires { ⌜ isSome (readTable form128 (now table)) ≡ true ⌝ }
-    requires { ⌜ first ≤ length (slotsOf (now table)) ⌝ }
-    ensures { λ r. ⌜ r ≡ foundFrom (lowestFrom (holds (now (key .entry))) (slotsOf (now (table .entry))) first) ⌝ }
+// The lowest slot from `first` on whose record in use has the key. No record has a key longer than 24 bytes. The first two words of any other
+// are compared before the key itself is.
+pub fn find_from(table: &[u8], form: Form, first: usize, key: &[u8]) -> Found
+    requires { ⌜ Reads (formOf form) (now table) ⌝ }
+    requires { ⌜ first ≤ length (slotsOf (formOf form) (now table)) ⌝ }
+    ensures { λ r. ⌜ slotOf r ≡ lowestFrom (holds (now (key .entry))) (slotsOf (formOf form) (now (table .entry))) first ⌝ }
 {
-    if 24 < key.len() {
+    if KEY_LIMIT < key.len() {
         return Found::Nothing;
     }
-    let mut padded = [0; 24];
+    let mut padded = [0; KEY_LIMIT];
     slice::fill(&mut padded, key);
     let a = slice::get8(&padded, 0);
     let b = slice::get8(&padded, 8);
-    let c = slice::get8(&padded, 16);
-    find_words(table, first, key, a, b, c)
+    find_words(table, form, first, key, a, b)
 }
 
-// The same for a key with its words.
-fn find_words(table: &[u8], first: usize, key: &[u8], a: u64, b: u64, c: u64) -> Found
-    requires { ⌜ isSome (readTable form128 (now table)) ≡ true ⌝ }
-    requires { ⌜ first ≤ length (slotsOf (now table)) ⌝ }
-    requires { ⌜ WordsOf (now key) a b c ⌝ }
-    ensures { λ r. ⌜ r ≡ foundFrom (lowestFrom (holds (now (key .entry))) (slotsOf (now (table .entry))) first) ⌝ }
+// The same for a key with its first two words.
+fn find_words(table: &[u8], form: Form, first: usize, key: &[u8], a: u64, b: u64) -> Found
+    requires { ⌜ Reads (formOf form) (now table) ⌝ }
+    requires { ⌜ first ≤ length (slotsOf (formOf form) (now table)) ⌝ }
+    requires { ⌜ WordsOf (now key) a b ⌝ }
+    ensures { λ r. ⌜ slotOf r ≡ lowestFrom (holds (now (key .entry))) (slotsOf (formOf form) (now (table .entry))) first ⌝ }
 {
-    let size = key.len() as u8;
-    let n = table.len() / RECORD_SIZE;
-    let mut i = first;
+    let n = crate::count(table, form);
+    let mut i = next_like(table, form, first, a, b);
     while i < n {
-        let from = i * RECORD_SIZE;
-        if record::has_key(&table[from..from + RECORD_SIZE], size, a, b, c) {
+        if record::has_key(crate::slot(table, form, i), key) {
             return Found::At(i);
         }
-        i += 1;
+        i = next_like(table, form, i + 1, a, b);
     }
     Found::Nothing
 }
 
-// The slot of the record in use with the key, live or not.
-pub fn find(table: &[u8], key: &[u8]) -> Found
-    requires { ⌜ isSome (readTable form128 (now table)) ≡ true ⌝ }
-    ensures { λ r. ⌜ r ≡ foundFrom (keySlot (now (key .entry)) (slotsOf (now (table .entry)))) ⌝ }
+// The lowest slot from `first` on whose key begins with two words, or the number of slots. This loop has nothing else in it, so that it is short.
+fn next_like(table: &[u8], form: Form, first: usize, a: u64, b: u64) -> usize
+    requires { ⌜ Reads (formOf form) (now table) ⌝ }
+    requires { ⌜ first ≤ length (slotsOf (formOf form) (now table)) ⌝ }
+    ensures { λ n. ⌜ (first ≤ n) × (n ≤ length (slotsOf (formOf form) (now (table .entry)))) × NoneBegins a b (formOf form) (now (table .entry)) first n ⌝ }
 {
-    find_from(table, 0, key)
+    let n = crate::count(table, form);
+    let mut i = first;
+    while i < n {
+        if record::begins(crate::slot(table, form, i), a, b) {
+            return i;
+        }
+        i += 1;
+    }
+    i
+}
+
+// The slot of the record in use with the key, live or not.
+pub fn find(table: &[u8], form: Form, key: &[u8]) -> Found
+    requires { ⌜ Reads (formOf form) (now table) ⌝ }
+    ensures { λ r. ⌜ slotOf r ≡ keySlot (now (key .entry)) (slotsOf (formOf form) (now (table .entry))) ⌝ }
+{
+    find_from(table, form, 0, key)
 }
 
 // The lowest empty slot.
-fn empty_slot(table: &[u8]) -> Found
-    requires { ⌜ isSome (readTable form128 (now table)) ≡ true ⌝ }
-    ensures { λ r. ⌜ r ≡ foundFrom (lowest isEmpty (slotsOf (now (table .entry)))) ⌝ }
+fn empty_slot(table: &[u8], form: Form) -> Found
+    requires { ⌜ Reads (formOf form) (now table) ⌝ }
+    ensures { λ r. ⌜ slotOf r ≡ lowest isEmpty (slotsOf (formOf form) (now (table .entry))) ⌝ }
 {
-    let n = table.len() / RECORD_SIZE;
+    let n = crate::count(table, form);
     let mut i = 0;
     while i < n {
-        let from = i * RECORD_SIZE;
-        if !record::in_use(&table[from..from + RECORD_SIZE]) {
+        if !record::in_use(crate::slot(table, form, i)) {
             return Found::At(i);
         }
         i += 1;
@@ -74,15 +88,14 @@ fn empty_slot(table: &[u8]) -> Found
 }
 
 // The lowest slot with an expired record. An empty record has no expiry, so that its bytes need no test of their own.
-fn expired_slot(table: &[u8], now: u64) -> Found
-    requires { ⌜ isSome (readTable form128 (table .now)) ≡ true ⌝ }
-    ensures { λ r. ⌜ r ≡ foundFrom (lowest (isExpired now) (slotsOf (table .entry .now))) ⌝ }
+fn expired_slot(table: &[u8], form: Form, time: u64) -> Found
+    requires { ⌜ Reads (formOf form) (now table) ⌝ }
+    ensures { λ r. ⌜ slotOf r ≡ lowest (isExpired time) (slotsOf (formOf form) (now (table .entry))) ⌝ }
 {
-    let n = table.len() / RECORD_SIZE;
+    let n = crate::count(table, form);
     let mut i = 0;
     while i < n {
-        let from = i * RECORD_SIZE;
-        if !record::is_live(&table[from..from + RECORD_SIZE], now) {
+        if !record::is_live(crate::slot(table, form, i), time) {
             return Found::At(i);
         }
         i += 1;
@@ -91,23 +104,12 @@ fn expired_slot(table: &[u8], now: u64) -> Found
 }
 
 // The lowest empty slot, else the lowest with an expired record. Most tables have an empty slot, and one byte tells of it.
-pub fn free_slot(table: &[u8], now: u64) -> Found
-    requires { ⌜ isSome (readTable form128 (table .now)) ≡ true ⌝ }
-    ensures { λ r. ⌜ r ≡ foundFrom (orElse (lowest isEmpty (slotsOf (table .entry .now))) (lowest (isExpired now) (slotsOf (table .entry .now)))) ⌝ }
+pub fn free_slot(table: &[u8], form: Form, time: u64) -> Found
+    requires { ⌜ Reads (formOf form) (now table) ⌝ }
+    ensures { λ r. ⌜ slotOf r ≡ freeSlot time (slotsOf (formOf form) (now (table .entry))) ⌝ }
 {
-    let Found::At(free) = empty_slot(table) else {
-        return expired_slot(table, now);
+    let Found::At(free) = empty_slot(table, form) else {
+        return expired_slot(table, form, time);
     };
     Found::At(free)
-}
-
-// The slot that a write to the key takes where no live record has it: its own record, else a free one.
-pub fn slot_for(table: &[u8], now: u64, key: &[u8]) -> Found
-    requires { ⌜ isSome (readTable form128 (table .now)) ≡ true ⌝ }
-    ensures { λ r. ⌜ r ≡ foundFrom (slotFor now (key .entry .now) (slotsOf (table .entry .now))) ⌝ }
-{
-    let Found::At(own) = find(table, key) else {
-        return free_slot(table, now);
-    };
-    Found::At(own)
 }

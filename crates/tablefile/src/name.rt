@@ -2,7 +2,7 @@
 ghost use mathlib.Core.Path.{_≡_};
 ghost use Prim.Native.Nat.{_+_, _≤_};
 ghost use lib.ListN.{length};
-ghost use Rattle.number.specs.Wrote.{Wrote};
+ghost use Rattle.slice.specs.Wrote.{Wrote};
 ghost use Rattle.tablefile.specs.Names.{newName, afterSlash};
 
 // What the new file's name has after the table's: `.new`.

@@ -10,6 +10,13 @@ use lib.Seq.{take-suc}
 use lib.Dec.{eqb}
 use Rattle.terminal.specs.Escape.{letter, prints, hexDigit, plain, escaped, escapedAll}
 
+-- a byte that prints stands for itself, any other is written by its number
+pub plain-prints : (b : ℕ) → prints b ≡ true → plain b ≡ b ∷ []
+plain-prints b e = rw e
+
+pub plain-other : (b : ℕ) → prints b ≡ false → plain b ≡ 92 ∷ 120 ∷ hexDigit (b / 16) ∷ hexDigit (b % 16) ∷ []
+plain-other b e = rw e
+
 either-short : (p : Bool) (s t : List ℕ) {n : ℕ} → length s ≤ n → length t ≤ n → length (cond p s t) ≤ n
 either-short true s t h k = h
 either-short false s t h k = k

@@ -3,7 +3,7 @@ use crate::text::print;
 ghost use mathlib.Core.Path.{_≡_};
 ghost use Prim.Native.Nat.{_+_, _*_, _≤_, _<_};
 ghost use lib.ListN.{length};
-ghost use Rattle.number.specs.Wrote.{Wrote};
+ghost use Rattle.slice.specs.Wrote.{Wrote};
 ghost use Rattle.terminal.specs.Escape.{letter, hexDigit, plain, escaped, escapedAll};
 
 // The most bytes that are escaped at once, and the room that they take.

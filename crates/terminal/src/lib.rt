@@ -1,8 +1,10 @@
-// Text for a terminal: bytes as they are, bytes in quotes with the unprintable ones escaped.
+// Text for a terminal: bytes as they are, bytes in quotes with the unprintable ones escaped, and replies as redis-cli prints them.
 mod escape;
+mod printed;
 mod text;
 
 pub use escape::print_quoted;
+pub use printed::print_reply;
 pub use text::complain;
 pub use text::find;
 pub use text::print;

@@ -15,8 +15,5 @@ returns-2 c =
     let s = c .before .before in
     rw (c .before .if1 .taken, back-is (s .fits .z)) (sym (floored-other (s .args .z) (simp (back-is (s .fits .z)) at (c .if2 .left))))
 
-returns-3 : tie.Need-returns-3
-returns-3 c = rw (c .if1 .left, back-is (c .before .fits .z))
-
 pub floor-spec : {M : Type 1} → statement M
-floor-spec = tie.close (tie.spec returns returns-2 returns-3)
+floor-spec = tie.close (tie.spec returns returns-2 (λ c. rw (c .if1 .left, back-is (c .before .fits .z))))

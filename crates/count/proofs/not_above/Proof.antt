@@ -13,15 +13,6 @@ use Rattle.count.proofs.not_above.Tie as tie
 fits : (c : tie.After-known-told) → SFits w64 (c .before .max .given .0 .0)
 fits c = record { sfits = c .known-told .given .0 .1 }
 
-enum-known-max : tie.Need-enum-known-max
-enum-known-max c = search needs
-
-enum-told : tie.Need-enum-told
-enum-told c = search needs
-
-returns : tie.Need-returns
-returns c = search needs
-
 returns-2 : tie.Need-returns-2
 returns-2 c =
     let d = c .before in
@@ -35,4 +26,4 @@ returns-3 c =
     sym (above-is _ (v .0 .0) _ false (v .1) (simp (back-is (fits d), back-is (d .before .before .before .fits .z)) at (c .if1 .left)))
 
 pub not-above-spec : {M : Type 1} → statement M
-not-above-spec = tie.close (tie.spec enum-known-max enum-told returns returns-2 returns-3)
+not-above-spec = tie.close (tie.spec (λ c. search needs) (λ c. search needs) (λ c. search needs) returns-2 returns-3)

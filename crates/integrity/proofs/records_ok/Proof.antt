@@ -1,114 +1,123 @@
 -- `integrity::records_ok` meets its contract. The loop's invariant: the table reads if the records from the i-th on do.
-use Prim.Native.Nat.{ℕ, _+_, _-_, _/_, _≤_}
-use native.Mathlib.Omega.{arith}
+use Prim.Native.Nat.{ℕ, _+_, _-_, _*_, _/_, _%_, _≤_}
+use native.Mathlib.Nat.{div-add-mod'}
 use mathlib.Core.Path.{_≡_, refl, sym, ap, _∙_}
-use mathlib.Core.Bool.{_&&_}
+use mathlib.Core.Bool.{true, _&&_}
+use lib.Dec.{eqb}
 use mathlib.Core.List.{List}
 use lib.ListN.{length}
-use borrow.Author.Needs.{needs}
 use borrow.Author.Tests.{eq-eqb, ne-eqb, le-leb, lt-leb, not-true, not-false}
-use Rattle.model.specs.Table.{form128, readTable, readSlot, recordAt}
-use Rattle.model.specs.Command.{isSome}
-use Rattle.table.proofs.Records.{readFrom, read-table, read-none, read-next, read-end}
-use Rattle.table.proofs.Parts.{lent-is, lent-length}
+use Rattle.model.specs.Table.{recordSize, readTable, readSlot}
+use Rattle.model.specs.Optional.{isSome}
+use Rattle.record.specs.Forms.{formOf}
+use Rattle.table.proofs.Records.{inside, readFrom, read-table, read-none, read-next, read-end}
+use Rattle.table.proofs.Parts.{length-slot}
+use Rattle.integrity.proofs.Sizes.{whole, not-whole}
+use native.Mathlib.Omega.{arith}
+use borrow.Author.Needs.{needs}
 use Rattle.integrity.proofs.records_ok.Statement.{statement}
 use Rattle.integrity.proofs.records_ok.Tie as tie
 
 abbrev Inv-loop : tie.InvT-loop
-Inv-loop table n i₀ mask i = (i ≤ n) × (n ≡ length table / 128) × (isSome (readTable form128 table) ≡ readFrom form128 n i table)
+Inv-loop table form n i₀ t5 i =
+    let f = formOf form in
+    (i ≤ n) × (n ≡ length table / recordSize f) × (n * recordSize f ≡ length table) × (isSome (readTable f table) ≡ readFrom f n i table)
 
 abbrev μ-loop : tie.MeasureT-loop
-μ-loop table n i₀ mask i = n - i
+μ-loop table form n i₀ t5 i = n - i
+
+-- what is known of the length once it is a whole number of records
+length-told : (c : tie.Else1 Inv-loop μ-loop)
+    → let s = c .before .before .before .before in
+    eqb (length (s .args .table .now) % recordSize (formOf (s .args .form))) 0 ≡ true
+length-told c =
+    let s = c .before .before .before .before in
+    let t = s .args .table .now in
+    eq-eqb _ _ (whole (formOf (s .args .form)) (length t) _ _ (c .before .before .count .ensures) (c .before .size .ensures) (c .if1 .left))
+
+-- the number of records, as the model counts them
+count-told : (c : tie.Else1 Inv-loop μ-loop)
+    → let s = c .before .before .before .before in
+    length (s .args .table .now) / recordSize (formOf (s .args .form)) ≡ c .before .before .count .result
+count-told c = sym (c .before .before .count .ensures)
 
 returns : tie.Need-returns Inv-loop μ-loop
-returns c = sym (read-table form128 (c .before .before .args .table .now) ∙ rw (ne-eqb _ _ (c .if1 .taken)))
+returns c =
+    let s = c .before .before .before .before in
+    let t = s .args .table .now in
+    let f = formOf (s .args .form) in
+    sym (read-table f t ∙ rw (ne-eqb _ _ (not-whole f (length t) _ _ (c .before .before .count .ensures) (c .before .size .ensures) (c .if1 .taken))))
+
+mul-if1 : tie.Need-mul-if1 Inv-loop μ-loop
+mul-if1 c = rw (c .size .ensures, c .before .count .ensures) (record { fits = omega (arith, div-add-mod' (length (c .before .before .before .args .table .now)) (recordSize (formOf (c .before .before .before .args .form)))) })
 
 returns-2 : tie.Need-returns-2 Inv-loop μ-loop
 returns-2 c =
-    sym (read-table form128 (c .before .before .before .args .table .now) ∙ rw (eq-eqb _ _ (c .before .if1 .left), lt-leb 1 _ (c .if2 .taken)))
+    let s = c .before .before .before .before .before in
+    sym (read-table (formOf (s .args .form)) (s .args .table .now) ∙ rw (length-told (c .before), count-told (c .before), lt-leb 1 _ (c .if2 .taken)))
 
 returns-3 : tie.Need-returns-3 Inv-loop μ-loop
 returns-3 c =
-    sym (read-table form128 (c .before .before .before .before .args .table .now)
-    ∙ rw (eq-eqb _ _ (c .before .before .if1 .left), le-leb 1 _ (c .before .if2 .left), lt-leb _ 256 (c .if3 .taken)))
+    let s = c .before .before .before .before .before .before in
+    sym (read-table (formOf (s .args .form)) (s .args .table .now)
+    ∙ rw (length-told (c .before .before), count-told (c .before .before), le-leb 1 _ (c .before .if2 .left), lt-leb _ 256 (c .if3 .taken)))
 
 loop-holds : tie.Need-loop-holds Inv-loop μ-loop
 loop-holds c =
-    let t = c .before .before .before .before .args .table .now in (
+    let s = c .before .before .before .before .before .before in
+    let f = formOf (s .args .form) in
+    let t = s .args .table .now in
+    let n = c .before .before .before .before .count .result in (
       omega arith,
-      refl,
-      read-table form128 t
-          ∙ rw (eq-eqb _ _ (c .before .before .if1 .left), le-leb 1 _ (c .before .if2 .left), le-leb _ 256 (c .if3 .left)) (read-none form128 (length t / 128) t),
+      c .before .before .before .before .count .ensures,
+      ap (λ (x : ℕ). n * x) (sym (c .before .before .before .size .ensures)) ∙ c .before .before .if1 .left,
+      read-table f t
+          ∙ rw (length-told (c .before .before), count-told (c .before .before), le-leb 1 _ (c .before .if2 .left), le-leb _ 256 (c .if3 .left)) (read-none f n t),
     )
 
-mul-from : tie.Need-mul-from Inv-loop μ-loop
-mul-from c = search needs
-
-add-readable : tie.Need-add-readable Inv-loop μ-loop
-add-readable c = search needs
-
-sub-readable : tie.Need-sub-readable Inv-loop μ-loop
-sub-readable c = search needs
-
-part-readable-start : tie.Need-part-readable-start Inv-loop μ-loop
-part-readable-start c = search needs
-
-part-readable-end : tie.Need-part-readable-end Inv-loop μ-loop
-part-readable-end c = search needs
+slot-requires : tie.Need-slot-requires Inv-loop μ-loop
+slot-requires c κs =
+    let l = c .before in
+    let s = l .before .before .before .before .before .before .before in
+    omega (arith, inside (formOf (s .args .form)) (l .before .before .before .before .before .count .result) (l .loop .i) (omega arith), l .loop .inv .2)
 
 readable-requires : tie.Need-readable-requires Inv-loop μ-loop
 readable-requires c κs =
     let l = c .before .before .before in
-    (lent-length (l .loop .i) (l .before .before .before .before .before .args .table .now) (omega arith), refl)
+    let s = l .before .before .before .before .before .before .before in
+    let f = formOf (s .args .form) in
+    let within = inside f (l .before .before .before .before .before .count .result) (l .loop .i) (omega arith) in
+    (ap length (c .before .slot .ensures) ∙ length-slot f (s .args .table .now) (l .loop .i) (omega (arith, within, l .loop .inv .2)), refl)
 
 -- what the call said of the record, in the invariant
 told : (c : tie.After-readable Inv-loop μ-loop)
     → let l = c .before .before .before .before in
-    let t = l .before .before .before .before .before .args .table .now in
-    isSome (readTable form128 t) ≡ c .readable .result && readFrom form128 (length t / 128) (l .loop .i + 1) t
+    let s = l .before .before .before .before .before .before .before in
+    let f = formOf (s .args .form) in
+    isSome (readTable f (s .args .table .now)) ≡ c .readable .result && readFrom f (l .before .before .before .before .before .count .result) (l .loop .i + 1) (s .args .table .now)
 told c =
     let l = c .before .before .before .before in
-    let t = l .before .before .before .before .before .args .table .now in
-    let said : c .readable .result ≡ isSome (readSlot form128 (recordAt form128 (l .loop .i) t)) =
-    c .readable .ensures ∙ ap (λ (b : List ℕ). isSome (readSlot form128 b)) (lent-is (l .loop .i) t) in
-    rw said (l .loop .inv .2 ∙ read-next form128 (length t / 128) t (l .loop .i) (omega arith))
-
-returns-4 : tie.Need-returns-4 Inv-loop μ-loop
-returns-4 c = sym (told (c .before) ∙ rw (not-true (c .before .readable .result) (c .if4 .taken)))
-
-add-i : tie.Need-add-i Inv-loop μ-loop
-add-i c = search needs
-
-loop-less : tie.Need-loop-less Inv-loop μ-loop
-loop-less c = search needs
+    let s = l .before .before .before .before .before .before .before in
+    let f = formOf (s .args .form) in
+    let t = s .args .table .now in
+    let said = c .readable .ensures ∙ ap (λ (b : List ℕ). isSome (readSlot f b)) (c .before .before .slot .ensures) in
+    l .loop .inv .3 ∙ read-next f _ t (l .loop .i) (omega arith) ∙ ap (λ b. b && readFrom f (l .before .before .before .before .before .count .result) (l .loop .i + 1) t) (sym said)
 
 loop-again : tie.Need-loop-again Inv-loop μ-loop
-loop-again c = (omega arith, refl, told (c .before) ∙ rw (not-false (c .before .readable .result) (c .if4 .left)))
+loop-again c =
+    let l = c .before .before .before .before .before in
+    (omega arith, l .loop .inv .1, l .loop .inv .2, told (c .before) ∙ rw (not-false (c .before .readable .result) (c .if4 .left)))
 
 returns-5 : tie.Need-returns-5 Inv-loop μ-loop
 returns-5 c =
     let l = c .before in
-    let t = l .before .before .before .before .before .args .table .now in
-    sym (l .loop .inv .2 ∙ read-end form128 (length t / 128) t (l .loop .i) (omega arith))
+    let s = l .before .before .before .before .before .before .before in
+    sym (l .loop .inv .3 ∙ read-end (formOf (s .args .form)) _ (s .args .table .now) (l .loop .i) (omega arith))
 
 pub records-ok-spec : {M : Type 1} → statement M
 records-ok-spec =
     tie.close
     (tie.spec
-    Inv-loop
-    μ-loop
-    returns
-    returns-2
-    returns-3
-    loop-holds
-    mul-from
-    add-readable
-    sub-readable
-    part-readable-start
-    part-readable-end
-    readable-requires
-    returns-4
-    add-i
-    loop-less
-    loop-again
-    returns-5)
+    Inv-loop μ-loop (λ c κs. search needs) (λ c κs. search needs) mul-if1 returns returns-2 returns-3 loop-holds slot-requires readable-requires
+    (λ c. sym (told (c .before) ∙ rw (not-true (c .before .readable .result) (c .if4 .taken))))
+    (λ c. search needs) (λ c. search needs) loop-again returns-5)

@@ -1,57 +1,22 @@
--- `live::allowed` meets its contract, by cases of the presence and of the slot.
+-- `live::allowed` meets its contract, by cases of the presence.
 use borrow.Author.Needs.{needs}
+use Rattle.live.specs.Under.{storedIn}
+use Rattle.live.proofs.Writes.{if-absent}
 use Rattle.live.proofs.allowed.Statement.{statement}
 use Rattle.live.proofs.allowed.Tie as tie
 
-enum-told : tie.Need-enum-told
-enum-told c = search needs
-
-enum-told-2 : tie.Need-enum-told-2
-enum-told-2 c = search needs
-
-enum-told-3 : tie.Need-enum-told-3
-enum-told-3 c = search needs
-
-enum-told-4 : tie.Need-enum-told-4
-enum-told-4 c = search needs
-
-enum-told-5 : tie.Need-enum-told-5
-enum-told-5 c = search needs
-
-enum-told-6 : tie.Need-enum-told-6
-enum-told-6 c = search needs
-
-enum-told-7 : tie.Need-enum-told-7
-enum-told-7 c = search needs
-
-returns : tie.Need-returns
-returns c = λ t. rw (c .enum-told .given .1)
-
 returns-2 : tie.Need-returns-2
-returns-2 c = λ t. rw (c .before .before .enum-told2 .given .1, c .enum-told3 .given .1)
-
-returns-3 : tie.Need-returns-3
-returns-3 c = λ t. rw (c .before .before .enum-told2 .given .1, c .enum-told4 .given .1)
-
-returns-4 : tie.Need-returns-4
-returns-4 c = λ t. rw (c .before .before .enum-told5 .given .1, c .enum-told6 .given .1)
-
-returns-5 : tie.Need-returns-5
-returns-5 c = λ t. rw (c .before .before .enum-told5 .given .1, c .enum-told7 .given .1)
+returns-2 c = rw (c .before .enum-told2 .given .1, c .is-live .ensures) (if-absent (storedIn (c .before .before .before .args .found)))
 
 pub allowed-spec : {M : Type 1} → statement M
 allowed-spec =
     tie.close
     (tie.spec
-    enum-told
-    enum-told-2
-    enum-told-3
-    enum-told-4
-    enum-told-5
-    enum-told-6
-    enum-told-7
-    returns
+    (λ c. search needs)
+    (λ c. search needs)
+    (λ c κs. search needs)
+    (λ c. search needs)
+    (λ c κs. search needs)
+    (λ c. search needs)
     returns-2
-    returns-3
-    returns-4
-    returns-5)
+    (λ c. search needs))

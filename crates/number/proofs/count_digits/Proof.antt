@@ -56,29 +56,15 @@ Inv-loop n k₀ power₀ k power = Counting n k power
 abbrev μ-loop : tie.MeasureT-loop
 μ-loop n k₀ power₀ k power = 20 - k
 
-loop-holds : tie.Need-loop-holds Inv-loop μ-loop
-loop-holds c =
-    record { fits = c .fits .n .fits; is = refl; some = omega arith; few = omega arith; counted = text-some (text-of _ (c .fits .n .fits)) }
-
-add-k : tie.Need-add-k Inv-loop μ-loop
-add-k c = omega (arith, c .before .loop .inv .few)
-
-returns : tie.Need-returns Inv-loop μ-loop
-returns c = most (c .before .before .loop .inv) (c .before .loop-test .taken) (c .if1 .taken)
-
-mul-power : tie.Need-mul-power Inv-loop μ-loop
-mul-power c = record { fits = power-fits (c .before .before .loop .inv) (c .if1 .left) }
-
-loop-less : tie.Need-loop-less Inv-loop μ-loop
-loop-less c = omega (arith, c .before .before .loop .inv .few)
-
-loop-again : tie.Need-loop-again Inv-loop μ-loop
-loop-again c = next (c .before .before .loop .inv) (c .before .loop-test .taken) (c .if1 .left)
-
-returns-2 : tie.Need-returns-2 Inv-loop μ-loop
-returns-2 c = last (c .before .loop .inv) (c .loop-test .left)
-
 pub count-digits-spec : {M : Type 1} → statement M
 count-digits-spec =
     tie.close
-    (tie.spec Inv-loop μ-loop loop-holds add-k returns mul-power loop-less loop-again returns-2)
+    (tie.spec
+    Inv-loop μ-loop
+    (λ c. record { fits = c .fits .n .fits; is = refl; some = omega arith; few = omega arith; counted = text-some (text-of _ (c .fits .n .fits)) })
+    (λ c. omega (arith, c .before .loop .inv .few))
+    (λ c. most (c .before .before .loop .inv) (c .before .loop-test .taken) (c .if1 .taken))
+    (λ c. record { fits = power-fits (c .before .before .loop .inv) (c .if1 .left) })
+    (λ c. omega (arith, c .before .before .loop .inv .few))
+    (λ c. next (c .before .before .loop .inv) (c .before .loop-test .taken) (c .if1 .left))
+    (λ c. last (c .before .loop .inv) (c .loop-test .left)))

@@ -42,30 +42,19 @@ module _ (c : tie.Then1) where
   less : back (pos 0 -ℤ back (back z +ℤ pos 1)) ≡ pos (mag z)
   less = simp (back-is f, back-is one-more, less-is) (back-is less-fits)
 
-add-less : tie.Need-add-less
-add-less c = simp (back-is (f c)) (one-more c)
-
-sub-less : tie.Need-sub-less
-sub-less c = simp (back-is (f c), back-is (one-more c), less-is c) (less-fits c)
-
-cast-result : tie.Need-cast-result
-cast-result c = rw (less c) (tt, record { fits = omega (arith, f c .sfits) })
-
-add-result : tie.Need-add-result
-add-result c = rw (less c) (record { fits = omega (arith, f c .sfits) })
-
-returns : tie.Need-returns
-returns c = rw (less c) (omega (arith, ap natAbs (below-zero (z c) (below c))))
-
 cast-result-2 : tie.Need-cast-result-2
 cast-result-2 c =
     let f = c .before .fits .z in
     let e = not-below-zero (c .before .args .z) (simp (back-is f) at (c .if1 .left)) in
     rw (back-is f, e) (tt, record { fits = omega (arith, f .sfits, ap mag e) })
 
-returns-2 : tie.Need-returns-2
-returns-2 c = search needs
-
 pub magnitude-spec : {M : Type 1} → statement M
 magnitude-spec =
-    tie.close (tie.spec add-less sub-less cast-result add-result returns cast-result-2 returns-2)
+    tie.close
+    (tie.spec
+    (λ c. simp (back-is (f c)) (one-more c))
+    (λ c. simp (back-is (f c), back-is (one-more c), less-is c) (less-fits c))
+    (λ c. rw (less c) (tt, record { fits = omega (arith, f c .sfits) }))
+    (λ c. rw (less c) (record { fits = omega (arith, f c .sfits) }))
+    (λ c. rw (less c) (omega (arith, ap natAbs (below-zero (z c) (below c)))))
+    cast-result-2 (λ c. search needs))

@@ -86,21 +86,9 @@ module _ {a : ℤ} {k : ℕ} (d : Digit a k) where
     taken : Value (a *ℤ pos 10 -ℤ pos (k - 48)) ≡ answer
     taken = ap Value value ∙ sym (is-next ∙ negative-in next small)
 
-returns : tie.Need-returns
-returns c = sym (ap negativeFrom (digit-low _ _ [] (c .if1 .taken)))
-
-returns-2 : tie.Need-returns-2
-returns-2 c = sym (ap negativeFrom (digit-high _ _ [] (c .before .if1 .left) (c .if2 .taken)))
-
-cast-d : tie.Need-cast-d
-cast-d c = search needs
-
 -- the byte is a digit
 digit : (c : tie.Else2) → Digit (c .before .before .args .acc) (c .before .before .args .c)
 digit c = record { neg = c .before .before .pre; low = c .before .if1 .left; high = c .if2 .left }
-
-returns-3 : tie.Need-returns-3
-returns-3 c = far (digit (c .before)) (simp (back-is (c .before .before .before .fits .acc)) at (c .if3 .taken))
 
 -- past the first test
 module _ (c : tie.Else3) where
@@ -112,12 +100,6 @@ module _ (c : tie.Else3) where
 
   tens : SFits w64 (c .before .before .before .args .acc *ℤ pos 10)
   tens = tens-fit d (simp acc-is at (c .if3 .left))
-
-mul-tens : tie.Need-mul-tens
-mul-tens c = simp (acc-is c) (tens c)
-
-add-if4 : tie.Need-add-if4
-add-if4 c = simp (digit-is (d c)) (end-fits (d c))
 
 returns-4 : tie.Need-returns-4
 returns-4 c =
@@ -132,14 +114,16 @@ module _ (c : tie.Else4) where
   room : ltZ (e .before .before .before .args .acc *ℤ pos 10) (least +ℤ pos (e .before .before .before .args .c - 48)) ≡ false
   room = simp (acc-is e, digit-is (d e), back-is (tens e), back-is (end-fits (d e))) at (c .if4 .left)
 
-sub-t7 : tie.Need-sub-t7
-sub-t7 c = simp (acc-is (e c), digit-is (d (e c)), back-is (tens (e c))) (next-fits (d (e c)) (room c))
-
-returns-5 : tie.Need-returns-5
-returns-5 c =
-    simp (acc-is (e c), digit-is (d (e c)), back-is (tens (e c)), back-is (next-fits (d (e c)) (room c))) (taken (d (e c)) (room c))
-
 pub push-spec : {M : Type 1} → statement M
 push-spec =
     tie.close
-    (tie.spec returns returns-2 cast-d returns-3 mul-tens add-if4 returns-4 sub-t7 returns-5)
+    (tie.spec
+    (λ c. sym (ap negativeFrom (digit-low _ _ [] (c .if1 .taken))))
+    (λ c. sym (ap negativeFrom (digit-high _ _ [] (c .before .if1 .left) (c .if2 .taken))))
+    (λ c. search needs)
+    (λ c. far (digit (c .before)) (simp (back-is (c .before .before .before .fits .acc)) at (c .if3 .taken)))
+    (λ c. simp (acc-is c) (tens c))
+    (λ c. simp (digit-is (d c)) (end-fits (d c)))
+    returns-4
+    (λ c. simp (acc-is (e c), digit-is (d (e c)), back-is (tens (e c))) (next-fits (d (e c)) (room c)))
+    (λ c. simp (acc-is (e c), digit-is (d (e c)), back-is (tens (e c)), back-is (next-fits (d (e c)) (room c))) (taken (d (e c)) (room c))))

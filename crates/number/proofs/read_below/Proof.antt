@@ -50,12 +50,6 @@ said c = signed-value _ _ (sym (c .z .given .1) ∙ c .before .before .read-sign
 above : (c : tie.Else1) → ltZ (c .before .before .z .given .0 .0) (pos 0) ≡ false
 above c = simp (back-is (fits (c .before))) at (c .if1 .left)
 
-read-signed-requires : tie.Need-read-signed-requires
-read-signed-requires c κs = search needs
-
-enum-known-z : tie.Need-enum-known-z
-enum-known-z c = search needs
-
 enum-told : tie.Need-enum-told
 enum-told c = search needs
 
@@ -70,9 +64,6 @@ returns-2 c =
     let z = c .before .before in
     let start = z .before .before .before .before in
     below (start .args .limit) (start .pre) (start .args .s .now) _ (said z) (simp (back-is (fits (c .before))) at (c .if1 .taken))
-
-magnitude-requires : tie.Need-magnitude-requires
-magnitude-requires c κs = search needs
 
 returns-3 : tie.Need-returns-3
 returns-3 c =
@@ -90,11 +81,4 @@ pub read-below-spec : {M : Type 1} → statement M
 read-below-spec =
     tie.close
     (tie.spec
-    read-signed-requires
-    enum-known-z
-    enum-told
-    returns
-    returns-2
-    magnitude-requires
-    returns-3
-    returns-4)
+    (λ c κs. search needs) (λ c. search needs) enum-told returns returns-2 (λ c κs. search needs) returns-3 returns-4)

@@ -70,15 +70,6 @@ module _ {s : List ℕ} {acc i : ℕ} (r : Reading s acc i) where
   at-end : length s ≤ i → Value (toZ w64 acc) ≡ negativeFrom (readPositive s)
   at-end h = ap Value number-is ∙ sym (r .whole ∙ rw (drop-of-length-le s h) (negative-in (r .m) (r .small)))
 
-returns : tie.Need-returns Inv-loop μ-loop
-returns c = positive-none (c .before .before .args .s .now) (c .if1 .taken)
-
-shared-slice-read-if2 : tie.Need-shared-slice-read-if2 Inv-loop μ-loop
-shared-slice-read-if2 c = search needs
-
-returns-2 : tie.Need-returns-2 Inv-loop μ-loop
-returns-2 c = positive-zero (c .before .before .before .before .args .s .now) (c .before .before .if1 .left) (c .if2 .taken)
-
 loop-holds : tie.Need-loop-holds Inv-loop μ-loop
 loop-holds c =
     record {
@@ -89,16 +80,10 @@ loop-holds c =
       whole = ap negativeFrom (positive-digits (c .before .before .before .before .args .s .now) (c .before .before .if1 .left) (c .if2 .left));
     }
 
-shared-slice-read-push : tie.Need-shared-slice-read-push Inv-loop μ-loop
-shared-slice-read-push c = search needs
-
 push-requires : tie.Need-push-requires Inv-loop μ-loop
 push-requires c κs =
     let r = c .before .before .loop .inv in
     number-is r ∙ ap (λ (n : ℕ). negℤ (pos n)) (sym (abs-is r))
-
-enum-known-v : tie.Need-enum-known-v Inv-loop μ-loop
-enum-known-v c = search needs
 
 enum-told : tie.Need-enum-told Inv-loop μ-loop
 enum-told c = search needs
@@ -109,12 +94,6 @@ returns-3 c =
     let t = p .before .before in
     step-left (t .before .loop .inv) (t .loop-test .taken) (p .push .result) (p .push .ensures) (c .enum-told .given .1)
 
-add-i : tie.Need-add-i Inv-loop μ-loop
-add-i c = search needs
-
-loop-less : tie.Need-loop-less Inv-loop μ-loop
-loop-less c = search needs
-
 loop-again : tie.Need-loop-again Inv-loop μ-loop
 loop-again c =
     let v = c .before in
@@ -122,25 +101,13 @@ loop-again c =
     let t = p .before .before in
     step-taken (t .before .loop .inv) (t .loop-test .taken) (p .push .result) (p .push .ensures) (v .v .given .0 .0) (v .v .given .1)
 
-returns-4 : tie.Need-returns-4 Inv-loop μ-loop
-returns-4 c = at-end (c .before .loop .inv) (c .loop-test .left)
-
 pub read-negative-spec : {M : Type 1} → statement M
 read-negative-spec =
     tie.close
     (tie.spec
-    Inv-loop
-    μ-loop
-    returns
-    shared-slice-read-if2
-    returns-2
-    loop-holds
-    shared-slice-read-push
-    push-requires
-    enum-known-v
-    enum-told
-    returns-3
-    add-i
-    loop-less
-    loop-again
-    returns-4)
+    Inv-loop μ-loop
+    (λ c. positive-none (c .before .before .args .s .now) (c .if1 .taken))
+    (λ c. search needs)
+    (λ c. positive-zero (c .before .before .before .before .args .s .now) (c .before .before .if1 .left) (c .if2 .taken))
+    loop-holds (λ c. search needs) push-requires (λ c. search needs) enum-told returns-3 (λ c. search needs) (λ c. search needs) loop-again
+    (λ c. at-end (c .before .loop .inv) (c .loop-test .left)))

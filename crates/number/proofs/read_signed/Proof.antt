@@ -38,42 +38,12 @@ negated n =
     same (pos 0 -ℤ negℤ (pos n)) (pos n)
     (omega (arith, up-add (pos 0) (negℤ (negℤ (pos n))), up-neg (negℤ (pos n)), dn-neg (negℤ (pos n)), up-neg (pos n), dn-neg (pos n)))
 
-returns : tie.Need-returns
-returns c = text-none (c .before .before .args .s .now) (c .if1 .taken)
-
-shared-slice-read-if2 : tie.Need-shared-slice-read-if2
-shared-slice-read-if2 c = search needs
-
-sub-read-negative : tie.Need-sub-read-negative
-sub-read-negative c = search needs
-
-part-read-negative-start : tie.Need-part-read-negative-start
-part-read-negative-start c = search needs
-
-part-read-negative-end : tie.Need-part-read-negative-end
-part-read-negative-end c = search needs
-
-read-negative-requires : tie.Need-read-negative-requires
-read-negative-requires c κs = search needs
-
 returns-2 : tie.Need-returns-2
 returns-2 c =
     let two = c .before .before in
     let s = two .before .before .before .before .args .s .now in
     c .read-negative .ensures ∙ ap (λ (t : List ℕ). negativeFrom (readPositive t)) (rest-is s)
     ∙ sym (text-minus s (two .before .before .if1 .left) (two .if2 .taken))
-
-shared-slice-read-if4 : tie.Need-shared-slice-read-if4
-shared-slice-read-if4 c = search needs
-
-returns-3 : tie.Need-returns-3
-returns-3 c = text-zero (c .before .before .before .before .before .before .before .args .s .now) (c .before .before .if3 .taken) (c .if4 .taken)
-
-read-negative-requires-2 : tie.Need-read-negative-requires-2
-read-negative-requires-2 c κs = search needs
-
-enum-known-v : tie.Need-enum-known-v
-enum-known-v c = search needs
 
 enum-told : tie.Need-enum-told
 enum-told c = search needs
@@ -110,10 +80,6 @@ returns-5 c =
     let r = whole v in
     sym (not-zero (v .before .before .before) ∙ plain-out r (bits-least _ (r .small) (ap (ofZ w64) (sym (r .value)) ∙ c .if5 .taken)))
 
-sub-t15 : tie.Need-sub-t15
-sub-t15 c =
-    simp (back-is (fits (c .before)), negated-of (whole (c .before .before))) (record { sfits = under c })
-
 returns-6 : tie.Need-returns-6
 returns-6 c =
     let v = c .before .before in
@@ -125,19 +91,9 @@ pub read-signed-spec : {M : Type 1} → statement M
 read-signed-spec =
     tie.close
     (tie.spec
-    returns
-    shared-slice-read-if2
-    sub-read-negative
-    part-read-negative-start
-    part-read-negative-end
-    read-negative-requires
-    returns-2
-    shared-slice-read-if4
-    returns-3
-    read-negative-requires-2
-    enum-known-v
-    enum-told
-    returns-4
-    returns-5
-    sub-t15
+    (λ c. text-none (c .before .before .args .s .now) (c .if1 .taken))
+    (λ c. search needs) (λ c. search needs) (λ c. search needs) (λ c. search needs) (λ c κs. search needs) returns-2 (λ c. search needs)
+    (λ c. text-zero (c .before .before .before .before .before .before .before .args .s .now) (c .before .before .if3 .taken) (c .if4 .taken))
+    (λ c κs. search needs) (λ c. search needs) enum-told returns-4 returns-5
+    (λ c. simp (back-is (fits (c .before)), negated-of (whole (c .before .before))) (record { sfits = under c }))
     returns-6)

@@ -11,7 +11,8 @@ use native.Mathlib.Numerals.{add-one}
 use borrow.Author.Needs.{needs}
 use Rattle.model.specs.Bytes.{written}
 use Rattle.model.specs.Number.{natText}
-use Rattle.number.proofs.Writing.{Text, text-of, text-some, one-digit, split, written-last}
+use Rattle.slice.proofs.Writing.{written-last}
+use Rattle.number.proofs.Writing.{Text, text-of, text-some, one-digit, split}
 use Rattle.number.proofs.write_digits.Statement.{statement}
 use Rattle.number.proofs.write_digits.Tie as tie
 
@@ -55,9 +56,6 @@ Inv-loop buf₀ at k n left₀ rest₀ buf left rest = Writing buf₀ at n buf l
 abbrev μ-loop : tie.MeasureT-loop
 μ-loop buf₀ at k n left₀ rest₀ buf left rest = rest
 
-sub-left : tie.Need-sub-left Inv-loop μ-loop
-sub-left c = omega (arith, c .pre .0, text-some (text-of _ (c .fits .n .fits)))
-
 loop-holds : tie.Need-loop-holds Inv-loop μ-loop
 loop-holds c =
     record {
@@ -69,59 +67,15 @@ loop-holds c =
       whole = refl;
     }
 
-cast-buf : tie.Need-cast-buf Inv-loop μ-loop
-cast-buf c = search needs
-
-add-buf : tie.Need-add-buf Inv-loop μ-loop
-add-buf c = search needs
-
-add-buf-2 : tie.Need-add-buf-2 Inv-loop μ-loop
-add-buf-2 c = search needs
-
-slice-write-buf : tie.Need-slice-write-buf Inv-loop μ-loop
-slice-write-buf c = search needs
-
-sub-left-2 : tie.Need-sub-left-2 Inv-loop μ-loop
-sub-left-2 c = omega (arith, more (c .before .loop .inv) (c .loop-test .taken))
-
-loop-less : tie.Need-loop-less Inv-loop μ-loop
-loop-less c = search needs
-
-loop-again : tie.Need-loop-again Inv-loop μ-loop
-loop-again c = next (c .before .loop .inv) (c .loop-test .taken)
-
-cast-buf-2 : tie.Need-cast-buf-2 Inv-loop μ-loop
-cast-buf-2 c = search needs
-
-add-buf-3 : tie.Need-add-buf-3 Inv-loop μ-loop
-add-buf-3 c = search needs
-
-slice-write-buf-2 : tie.Need-slice-write-buf-2 Inv-loop μ-loop
-slice-write-buf-2 c = search needs
-
-same-length : tie.Need-same-length Inv-loop μ-loop
-same-length c = search needs
-
-returns : tie.Need-returns Inv-loop μ-loop
-returns c = last (c .before .loop .inv) (c .loop-test .left)
-
 pub write-digits-spec : {M : Type 1} → statement M
 write-digits-spec =
     tie.close
     (tie.spec
-    Inv-loop
-    μ-loop
-    sub-left
-    loop-holds
-    cast-buf
-    add-buf
-    add-buf-2
-    slice-write-buf
-    sub-left-2
-    loop-less
-    loop-again
-    cast-buf-2
-    add-buf-3
-    slice-write-buf-2
-    same-length
-    returns)
+    Inv-loop μ-loop
+    (λ c. omega (arith, c .pre .0, text-some (text-of _ (c .fits .n .fits))))
+    loop-holds (λ c. search needs) (λ c. search needs) (λ c. search needs) (λ c. search needs)
+    (λ c. omega (arith, more (c .before .loop .inv) (c .loop-test .taken)))
+    (λ c. search needs)
+    (λ c. next (c .before .loop .inv) (c .loop-test .taken))
+    (λ c. search needs) (λ c. search needs) (λ c. search needs) (λ c. search needs)
+    (λ c. last (c .before .loop .inv) (c .loop-test .left)))

@@ -8,7 +8,7 @@ use lib.ListN.{length, length-set}
 use lib.IntN.{natAbs}
 use Rattle.model.specs.Number.{natText, intText}
 use Rattle.number.proofs.Integers.{back-is, below-zero, not-below-zero}
-use Rattle.number.proofs.Writing.{wrote-first}
+use Rattle.slice.proofs.Writing.{wrote-first}
 use borrow.Author.Needs.{needs}
 use Rattle.number.proofs.write_signed.Statement.{statement}
 use Rattle.number.proofs.write_signed.Tie as tie
@@ -33,46 +33,21 @@ above c =
 room : (c : tie.Then1) → c .before .before .before .args .at + 1 + length (natText (c .before .magnitude .result)) ≤ length (c .before .before .before .args .buf .now)
 room c = omega (arith, ap length (below c), c .before .before .before .pre)
 
-magnitude-requires : tie.Need-magnitude-requires
-magnitude-requires c κs = search needs
-
-slice-write-buf : tie.Need-slice-write-buf
-slice-write-buf c = omega (arith, room c)
-
-add-write-natural : tie.Need-add-write-natural
-add-write-natural c = search needs
-
-write-natural-requires : tie.Need-write-natural-requires
-write-natural-requires c κs = simp length-set (room (c .before))
-
-same-length : tie.Need-same-length
-same-length c = c .before .before .write-natural .kept .0 ∙ simp length-set
-
 returns : tie.Need-returns
 returns c =
     let i = c .before .before .before .before in
     rw (below i) (wrote-first (omega (arith, room i)) (c .before .before .write-natural .ensures))
 
-write-natural-requires-2 : tie.Need-write-natural-requires-2
-write-natural-requires-2 c κs = omega (arith, ap length (above (c .before)), c .before .before .before .before .pre)
-
-same-length-2 : tie.Need-same-length-2
-same-length-2 c = search needs
-
-returns-2 : tie.Need-returns-2
-returns-2 c =
-    rw (above (c .before .before .before .before)) (c .before .before .write-natural2 .ensures)
-
 pub write-signed-spec : {M : Type 1} → statement M
 write-signed-spec =
     tie.close
     (tie.spec
-    magnitude-requires
-    slice-write-buf
-    add-write-natural
-    write-natural-requires
-    same-length
+    (λ c κs. search needs)
+    (λ c. omega (arith, room c))
+    (λ c. search needs)
+    (λ c κs. simp length-set (room (c .before)))
+    (λ c. c .before .before .write-natural .kept .0 ∙ simp length-set)
     returns
-    write-natural-requires-2
-    same-length-2
-    returns-2)
+    (λ c κs. omega (arith, ap length (above (c .before)), c .before .before .before .before .pre))
+    (λ c. search needs)
+    (λ c. rw (above (c .before .before .before .before)) (c .before .before .write-natural2 .ensures)))

@@ -1,103 +1,87 @@
--- `parse::parse_options` meets its contract: the options read are the model's, none where no words are left, so its tests from 8 on are.
-use Prim.Native.Nat.{ℕ}
-use native.Mathlib.Omega.{arith}
-use mathlib.Core.Path.{sym, ap, _∙_, subst}
-use mathlib.Core.List.{List, []}
-use mathlib.Core.Option.{Option, none}
-use lib.ListN.{drop}
-use Rattle.model.specs.Command.{Given, ruleOf, readOptions}
-use Rattle.command.specs.Command.{parsedFrom, wordsOf}
-use Rattle.command.specs.Words.{nameOf}
-use Rattle.command.specs.declared.Parsed.the-variants as Parsed
-use Rattle.options.specs.Places.{AtWord}
-use Rattle.options.specs.Options.{Reads}
-use Rattle.parse.proofs.Order.{Options8, reads-refused, reads-options, plain-eight, to-eight, not-enough, from-eight}
+-- `parse::parse_options` meets its contract: the options read are the model's, none where no words are left.
 use borrow.Author.Needs.{needs}
+use native.Mathlib.Omega.{arith}
+use Prim.Native.Nat.{ℕ}
+use mathlib.Core.Path.{ap, _∙_, subst}
+use mathlib.Core.Bool.{Bool}
+use mathlib.Core.List.{List}
+use lib.ListN.{drop}
+use Rattle.model.specs.Checked.{given}
+use Rattle.model.specs.Command as model
+use Rattle.model.specs.Command.{Name, ruleOf}
+use Rattle.model.specs.Options.{optionsIn, saidIn}
+use Rattle.model.specs.Parse.{readFixed}
+use Rattle.resp.specs.Spans.{wordsOf}
+use Rattle.command.specs.Words.{modelName}
+use Rattle.command.specs.Rules.{modelNumber}
+use Rattle.options.specs.Options.{Collects}
+use Rattle.parse.specs.Reading.{FixedIs}
+use Rattle.parse.proofs.Order.{least-fixed, fixed-is, options-wrong, options-right}
 use Rattle.parse.proofs.parse_options.Statement.{statement}
 use Rattle.parse.proofs.parse_options.Tie as tie
 
-abbrev words : tie.Start → List (List ℕ)
-words c = wordsOf (c .args .s .now)
+-- the words and the name
+module _ (c : tie.Start) where
+  abbrev words : List (List ℕ)
+  words = wordsOf (c .args .s .now)
 
--- where the reading of the options began
-abbrev first : tie.After-read-options → tie.Start
+  abbrev name : Name
+  name = modelName (c .args .name)
+
+-- where the reading began
+abbrev first : tie.After-read-fixed → tie.Start
 first c = c .before .before .before .before
 
--- what it answered
-read : (c : tie.After-read-options) → let b = first c in let r = ruleOf (nameOf (b .args .name)) in
-    Reads (b .args .s .now) (readOptions r [] none (drop (r .fixed) (words b))) (c .read-options .result)
-read c =
+-- the last fixed word
+fixed : (c : tie.After-read-fixed) → FixedIs (words (first c)) (name (first c)) (c .read-fixed .result .number) (c .read-fixed .result .fixed)
+fixed c =
     let b = first c in
-    let r = ruleOf (nameOf (b .args .name)) in
-    subst (λ (n : ℕ). Reads (b .args .s .now) (readOptions r [] none (drop n (words b))) (c .read-options .result)) (c .before .before .fixed-count .ensures) (c .read-options .ensures)
+    fixed-is (b .args .time) (words b) (name b) (c .read-fixed .result) (b .args .rule) (b .pre .rule)
+    (c .read-fixed .ensures ∙ ap (λ (w : List ℕ). given 9 (readFixed (modelNumber (b .args .rule .number)) w)) (c .before .word-or-empty .ensures))
 
--- the model's options of the words
-abbrev modelled : tie.After-read-options → Option (List Given)
-modelled c = let b = first c in let r = ruleOf (nameOf (b .args .name)) in readOptions r [] none (drop (r .fixed) (words b))
-
-options : (c : tie.Else2) → let r = c .before .before .before in Options8 (first r .args .s .now) (modelled r) (r .read-options .result)
-options c = let r = c .before .before .before in reads-options _ _ (modelled r) (read r) (c .if2 .left)
-
-fixed-count-requires : tie.Need-fixed-count-requires
-fixed-count-requires c κs = search needs
-
-parse-plain-requires : tie.Need-parse-plain-requires
-parse-plain-requires c κs = c .before .before .before .pre .0
+-- the options
+collected : (c : tie.After-options-in) → let b = first (c .before .before .before .before) in
+    Collects (words b) (optionsIn (ruleOf (name b)) (drop (ruleOf (name b) .fixed) (words b))) (c .options-in .result)
+collected c =
+    let b = first (c .before .before .before .before) in
+    subst (λ (m : model.Rule). Collects (words b) (optionsIn m (drop (m .fixed) (words b))) (c .options-in .result)) (b .pre .rule) (c .options-in .ensures)
 
 returns : tie.Need-returns
 returns c =
-    let f = c .before .before in
-    let b = f .before .before in
-    c .parse-plain .ensures (b .args .time)
-    ∙ sym (ap (parsedFrom (words b)) (plain-eight (b .args .time) (words b) (nameOf (b .args .name)) (omega (arith, c .before .if1 .taken, f .fixed-count .ensures, b .pre .1 .words))))
-
-read-options-requires : tie.Need-read-options-requires
-read-options-requires c κs =
-    let b = c .before .before .before in
-    subst (λ (n : ℕ). AtWord (b .args .s .now) (b .args .count) n (b .args .at)) (sym (c .before .fixed-count .ensures)) (b .pre .1)
+    let r = c .before .before .before .before in
+    let b = first r in
+    c .parse-plain .ensures (b .args .time) (words b) (omega (arith, c .before .if1 .taken, b .pre .words)) (record { rule = b .pre .rule; fixed = fixed r })
 
 returns-2 : tie.Need-returns-2
 returns-2 c =
-    let r = c .before .before .before in
-    let b = first r in
-    let d = reads-refused _ _ (modelled r) (read r) (c .if2 .taken) in
-    ap (λ (n : ℕ). Parsed.Refused n) (d .eight) ∙ sym (ap (parsedFrom (words b)) (to-eight (b .args .time) (words b) (nameOf (b .args .name)) (d .none-read)))
-
-enough-requires : tie.Need-enough-requires
-enough-requires c κs = search needs
-
-parse-numbers-requires : tie.Need-parse-numbers-requires
-parse-numbers-requires c κs =
-    let l = c .before .before in
-    let b = first (l .before .before .before) in
-    let d = options l in
-    (b .pre .0, b .pre .2, (d .given, d .tied))
+    let o = c .before .before in
+    let b = first (o .before .before .before .before) in
+    options-wrong (b .args .time) (words b) (name b) (o .options-in .result) (omega (arith, c .if2 .taken)) (collected o)
 
 returns-3 : tie.Need-returns-3
 returns-3 c =
-    let l = c .before .before .before in
-    let b = first (l .before .before .before) in
-    let d = options l in
-    c .parse-numbers .ensures (d .given) (d .tied)
-    ∙ sym (ap (parsedFrom (words b)) (from-eight (b .args .time) (words b) (nameOf (b .args .name)) (d .given) (d .read) (sym (c .before .before .enough .ensures (b .args .s .now) (d .given) (d .tied)) ∙ c .before .if3 .taken)))
-
-returns-4 : tie.Need-returns-4
-returns-4 c =
-    let l = c .before .before in
-    let b = first (l .before .before .before) in
-    let d = options l in
-    sym (ap (parsedFrom (words b)) (not-enough (b .args .time) (words b) (nameOf (b .args .name)) (d .given) (d .read) (sym (c .before .enough .ensures (b .args .s .now) (d .given) (d .tied)) ∙ c .if3 .left)))
+    let e = c .before .before .before in
+    let o = e .before .before in
+    let r = o .before .before .before .before in
+    let b = first r in
+    options-right (b .args .time) (words b) (name b) (o .options-in .result) (omega (arith, e .if2 .left)) (collected o) λ gs t.
+    c .parse-numbers .ensures (b .args .time) (words b) gs
+    (record {
+      fixed = fixed r;
+      said = c .before .said-in .ensures gs t ∙ ap (λ (k : Bool). saidIn (b .args .time) k gs) (ap (λ (m : model.Rule). m .keeps) (b .pre .rule));
+    })
 
 pub parse-options-spec : {M : Type 1} → statement M
 parse-options-spec =
     tie.close
     (tie.spec
-    fixed-count-requires
-    parse-plain-requires
+    (λ c. let b = c .before .before in omega (arith, least-fixed (name b), ap (λ (m : model.Rule). m .fixed) (b .pre .rule)))
+    (λ c κs. search needs)
+    (λ c κs. search needs)
+    (λ c κs. search needs)
     returns
-    read-options-requires
+    (λ c κs. search needs)
     returns-2
-    enough-requires
-    parse-numbers-requires
-    returns-3
-    returns-4)
+    (λ c κs. search needs)
+    (λ c κs. search needs)
+    returns-3)

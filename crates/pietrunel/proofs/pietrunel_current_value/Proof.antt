@@ -4,7 +4,7 @@ use mathlib.Core.Bool.{Bool}
 use Prim.Native.Nat.{ℕ}
 use borrow.Author.Needs.{needs}
 use Rattle.model.specs.CurrentValue.{Shown, nothing, inTable, inCommand, isShown, isInCommand, startOf, lengthOf}
-use Rattle.locate.proofs.Answers.{is-nothing, is-in-table, is-in-command}
+use Rattle.store.specs.Shows.{modelShown}
 use Rattle.pietrunel.specs.Located.{Located}
 use Rattle.pietrunel.proofs.pietrunel_current_value.Statement.{statement}
 use Rattle.pietrunel.proofs.pietrunel_current_value.Tie as tie
@@ -13,39 +13,27 @@ use Rattle.pietrunel.proofs.pietrunel_current_value.Tie as tie
 located : (s x : Shown) → s ≡ x → Located s (isShown x) (isInCommand x) (startOf x) (lengthOf x)
 located s x e = record { shown = ap isShown (sym e); in-command = ap isInCommand (sym e); start = ap startOf (sym e); length = ap lengthOf (sym e) }
 
-locate-requires : tie.Need-locate-requires
-locate-requires c κs = search needs
-
-enum-told : tie.Need-enum-told
-enum-told c = search needs
-
-enum-known-from : tie.Need-enum-known-from
-enum-known-from c = search needs
-
-enum-known-from-2 : tie.Need-enum-known-from-2
-enum-known-from-2 c = search needs
-
 returns : tie.Need-returns
-returns c = located _ nothing (is-nothing _ (sym (c .before .before .locate .ensures) ∙ c .enum-told .given .1))
+returns c = located _ nothing (sym (c .before .before .locate .ensures) ∙ ap modelShown (c .enum-told .given .1))
 
 returns-2 : tie.Need-returns-2
 returns-2 c =
     let a = c .before .from .given .0 in
-    located _ (inTable (a .0) (a .1 .0)) (is-in-table _ (a .0) (a .1 .0) (sym (c .before .before .before .locate .ensures) ∙ c .before .from .given .1))
+    located _ (inTable (a .0) (a .1 .0)) (sym (c .before .before .before .locate .ensures) ∙ ap modelShown (c .before .from .given .1))
 
 returns-3 : tie.Need-returns-3
 returns-3 c =
     let a = c .before .from2 .given .0 in
-    located _ (inCommand (a .0) (a .1 .0)) (is-in-command _ (a .0) (a .1 .0) (sym (c .before .before .before .locate .ensures) ∙ c .before .from2 .given .1))
+    located _ (inCommand (a .0) (a .1 .0)) (sym (c .before .before .before .locate .ensures) ∙ ap modelShown (c .before .from2 .given .1))
 
 pub pietrunel-current-value-spec : {M : Type 1} → statement M
 pietrunel-current-value-spec =
     tie.close
     (tie.spec
-    locate-requires
-    enum-told
-    enum-known-from
-    enum-known-from-2
+    (λ c κs. search needs)
+    (λ c. search needs)
+    (λ c. search needs)
+    (λ c. search needs)
     returns
     returns-2
     returns-3)

@@ -1,164 +1,124 @@
--- `put::join_value` meets its contract: under an absent key the joined text is the text given; otherwise the record found has the key, so
--- its fields, with the text joined and the version, are the model's record.
-use mathlib.Core.Path.{_≡_, refl, sym, ap, _∙_, subst}
-use mathlib.Core.List.{List}
-use mathlib.Core.Option.{Option, none, some}
-use Prim.Native.Nat.{ℕ, _+_, _≤_, _<_}
-use native.Mathlib.Omega.{arith}
-use lib.ListN.{length}
-use Rattle.model.specs.Checked.{Checked}
-use Rattle.model.specs.Command.{keep}
-use Rattle.model.specs.Execute.{versionAfter, joined, valueIn}
-use Rattle.command.specs.Command.{changeOf, endOf}
-use Rattle.table.specs.declared.Found.{Found}
-use Rattle.table.specs.declared.Found.the-variants.{At}
-use Rattle.change.specs.Slot.{recordIn}
-use Rattle.live.specs.Live.{liveOf, IsLive, versionFrom}
-use Rattle.live.specs.declared.Version.the-variants.{Value}
-use Rattle.put.specs.Put.{Put, putting, leftBy}
-use Rattle.put.specs.declared.Stored.the-variants.{Version}
-use Rattle.put.proofs.Tests.{put-top, version-below}
-use Rattle.put.proofs.Joins.{join-long, join-fits}
+-- `put::join_value` meets its contract: under an absent key the text is the value, else it is joined to the live record's.
 use borrow.Author.Needs.{needs}
+use Prim.Native.Nat.{ℕ, _+_}
+use native.Mathlib.Omega.{arith}
+use mathlib.Core.Path.{_≡_, sym, ap, _∙_, subst}
+use mathlib.Core.List.{List}
+use mathlib.Core.Option.{Option, none, Option·map}
+use lib.ListN.{length}
+use Rattle.model.specs.Checked.{ok}
+use Rattle.model.specs.Table.{Record}
+use Rattle.model.specs.Execute.{versionAfter, joined}
+use Rattle.command.specs.Command.{modelChange, modelTerms, modelEnd}
+use Rattle.table.specs.Slots.{recordIn}
+use Rattle.live.specs.declared.Lookup.{Lookup}
+use Rattle.live.specs.declared.Lookup.the-variants.{Live}
+use Rattle.live.specs.Under.{storedIn, shapeOf}
+use Rattle.live.specs.After.{checkedVersion}
+use Rattle.live.proofs.Cases.{none-live}
+use Rattle.put.specs.Put.{putIn, valueIn, Puts}
+use Rattle.put.proofs.Putting.{put-highest, put-long, put-at, puts-refused}
+use Rattle.put.proofs.Joining.{slot-live, length-live, live-here, puts-joined}
 use Rattle.put.proofs.join_value.Statement.{statement}
 use Rattle.put.proofs.join_value.Tie as tie
 
--- what is put, by the slot of the live record and the text there
-abbrev joining : tie.Start → Found → Option (List ℕ) → Checked Put
-joining s o old = putting (s .args .time) (s .args .table .now) (s .args .key .now) o (changeOf (s .args .change)) keep none (joined (endOf (s .args .end)) (s .args .value .now) old)
+abbrev start : tie.After-version-after → tie.Start
+start v = v .before .before .before .before .before .before .before .before
 
--- where the live record's slot is known
-abbrev start-l : tie.After-live → tie.Start
-start-l c = c .before .before .before .before .before
+-- the record that was found
+here : (v : tie.After-version-after) → start v .args .target .found ≡ Live (v .before .before .found .given .0 .0) (v .before .before .found .given .0 .1 .0)
+here v = v .before .before .found .given .1
 
-abbrev slot : tie.After-live → ℕ
-slot c = c .live .given .0 .0
+version-is : (v : tie.After-version-after)
+    → versionAfter (modelChange (start v .args .join .terms .change)) (storedIn (start v .args .target .found)) ≡ checkedVersion (v .version-after .result)
+version-is v = ap (λ (l : Lookup). versionAfter (modelChange (start v .args .join .terms .change)) (storedIn l)) (here v) ∙ sym (v .version-after .ensures)
 
-is-live : (c : tie.After-live) → IsLive (start-l c .args .table .now) (start-l c .args .time) (start-l c .args .key .now) (At (slot c))
-is-live c = let s = start-l c in subst (IsLive (s .args .table .now) (s .args .time) (s .args .key .now)) (c .live .given .1) (s .pre .0)
+risen : (c : tie.After-version) → versionAfter (modelChange (start (c .before .before) .args .join .terms .change)) (storedIn (start (c .before .before) .args .target .found)) ≡ ok (c .version .given .0 .0)
+risen c = version-is (c .before .before) ∙ ap checkedVersion (c .version .given .1)
 
-at-slot : (c : tie.After-live) (p : Checked Put) → joining (start-l c) (At (slot c)) (some (recordIn (start-l c .args .table .now) (slot c) .value)) ≡ p
-    → leftBy (start-l c .args .table .now) p ≡ leftBy (start-l c .args .table .now) (joining (start-l c) (start-l c .args .live) (valueIn (liveOf (start-l c .args .table .now) (start-l c .args .live))))
-at-slot c p e =
-    let s = start-l c in
-    sym (ap (λ (o : Found). leftBy (s .args .table .now) (joining s o (valueIn (liveOf (s .args .table .now) o)))) (c .live .given .1) ∙ ap (leftBy (s .args .table .now)) e)
+abbrev begun : tie.After-value → tie.Start
+begun c = start (c .before .before .before .before .before .before)
 
--- where the version is known
-abbrev live-v : tie.After-version → tie.After-live
-live-v c = c .before .before .before .before .before
+-- the length of the stored value, and that of the joined one
+old-is : (c : tie.After-value) → length (c .value .result .now) ≡ length (recordIn (shapeOf (begun c .args .target)) (begun c .args .table .now) (c .before .before .before .before .before .before .before .before .found .given .0 .0) .value)
+old-is c = ap length (c .value .ensures) ∙ ap (λ (r : Record). length (r .value)) (c .before .record-at .ensures .is)
 
-version-is : (c : tie.After-version)
-    → versionFrom (versionAfter (changeOf (start-l (live-v c) .args .change)) (liveOf (start-l (live-v c) .args .table .now) (At (slot (live-v c))))) ≡ Value (c .version .given .0 .0)
-version-is c = sym (c .before .before .version-after .ensures) ∙ c .version .given .1
-
--- the length of the stored text and of the one given
-abbrev total : tie.After-version → ℕ
-total c = let l = live-v c in length (recordIn (start-l l .args .table .now) (slot l) .value) + length (start-l l .args .value .now)
-
--- the stored text
-old-is : (c : tie.After-value) → c .value .result .now ≡ recordIn (start-l (live-v (c .before .before .before .before)) .args .table .now) (slot (live-v (c .before .before .before .before))) .value
-old-is c = c .value .ensures ∙ ap (λ r. r .value) (c .before .record-at .ensures .is)
-
-enum-known-live : tie.Need-enum-known-live
-enum-known-live c = search needs
-
-enum-told : tie.Need-enum-told
-enum-told c = search needs
-
-store-value-requires : tie.Need-store-value-requires
-store-value-requires c κs = search needs
-
-same-length : tie.Need-same-length
-same-length c = search needs
+whole : (c : tie.After-value) → length (joined (modelEnd (begun c .args .join .end)) (begun c .args .value .now) (valueIn (begun c .args .table .now) (begun c .args .target))) ≡ length (c .value .result .now) + length (begun c .args .value .now)
+whole c =
+    let v = c .before .before .before .before .before .before in
+    let e = length-live (begun c .args .table .now) (begun c .args .target) _ _ (here v) (modelEnd (begun c .args .join .end)) (begun c .args .value .now) in
+    omega (arith, e, old-is c)
 
 returns : tie.Need-returns
 returns c =
-    let w = c .before .before in
-    let m = w .before .before in
+    let m = c .before .before .before .before in
     let s = m .before .before .before .before .before in
-    w .store-value .ensures
-    ∙ ap (λ (o : Found). leftBy (s .args .table .now) (joining s (s .args .live) (valueIn (liveOf (s .args .table .now) o)))) (sym (m .enum-told .given .1))
-
-version-after-requires : tie.Need-version-after-requires
-version-after-requires c κs = is-live (c .before .before) .sound
-
-enum-known-version : tie.Need-enum-known-version
-enum-known-version c = search needs
-
-enum-told-2 : tie.Need-enum-told-2
-enum-told-2 c = search needs
-
-same-length-2 : tie.Need-same-length-2
-same-length-2 c = search needs
+    subst (λ (x : Option (List ℕ)). Puts (shapeOf (s .args .target)) (s .args .table .now) (c .before .before .store-value .last .0) (c .before .before .store-value .result) (putIn (s .args .table .now) (s .args .target) (s .args .key .now) (modelTerms (s .args .join .terms)) none (joined (modelEnd (s .args .join .end)) (s .args .value .now) x)))
+    (ap (Option·map (λ (r : Record). r .value)) (sym (none-live (shapeOf (s .args .target)) (s .args .table .now) (s .args .target .found) (m .match .keys2)))) (c .before .before .store-value .ensures)
 
 returns-2 : tie.Need-returns-2
 returns-2 c =
     let v = c .before .before in
-    let l = v .before .before .before in
-    at-slot l _ (put-top _ _ _ _ _ _ _ _ (sym (v .version-after .ensures) ∙ c .enum-told2 .given .1))
+    let s = start v in
+    puts-refused _ (s .args .table .now) _ 15 (put-highest (s .args .table .now) (s .args .target) _ (modelTerms (s .args .join .terms)) _ _ (version-is v ∙ ap checkedVersion (c .enum-told .given .1)))
 
 record-at-requires : tie.Need-record-at-requires
 record-at-requires c κs =
-    let l = is-live (c .before .before .before .before .before .before .before) .sound in
-    (l .reads, l .in-use _ refl)
-
-value-requires : tie.Need-value-requires
-value-requires c κs = search needs
-
-add-if1 : tie.Need-add-if1
-add-if1 c = search needs
-
-same-length-3 : tie.Need-same-length-3
-same-length-3 c = search needs
+    let v = c .before .before .before .before in
+    let s = start v in
+    (s .pre .0 .sound .reads, live-here (s .args .table .now) (s .args .target) _ _ (here v) (s .pre .0 .sound .at) .in-use)
 
 returns-3 : tie.Need-returns-3
 returns-3 c =
-    let x = c .before in
-    let v = x .before .before .before .before in
-    let s = start-l (live-v v) in
-    let l : 64 < total v = omega (arith, c .if1 .taken, ap length (old-is x)) in
-    at-slot (live-v v) _ (join-long _ _ _ _ (is-live (live-v v)) _ (endOf (s .args .end)) (s .args .value .now) _ (version-is v) l)
+    let r = c .before .before .before in
+    let v = r .before .before .before in
+    let s = start (v .before .before) in
+    puts-refused _ (s .args .table .now) _ 16
+    (put-long (s .args .table .now) (s .args .target) _ (modelTerms (s .args .join .terms)) _ _ (risen v) (omega (arith, c .if1 .taken, whole (c .before .before), c .before .limit .ensures)))
 
-join-at-requires : tie.Need-join-at-requires
-join-at-requires c κs =
-    let x = c .before .before in
-    let v = x .before .before .before .before in
-    let s = start-l (live-v v) in
-    let l = is-live (live-v v) .sound in
-    (l .reads, (l .in-use _ refl, (omega (arith, c .before .if1 .left, ap length (old-is x)), version-below (changeOf (s .args .change)) _ _ (s .pre .1 .1) (version-is v))))
-
-same-length-4 : tie.Need-same-length-4
-same-length-4 c = search needs
+join-requires : tie.Need-join-requires
+join-requires c κs =
+    let f = c .before .before .before in
+    let l = f .before in
+    let r = l .before .before in
+    let v = r .before .before .before in
+    let s = start (v .before .before) in
+    (s .pre .0 .sound .reads, (live-here (s .args .table .now) (s .args .target) _ _ (here (v .before .before)) (s .pre .0 .sound .at) .in-use, omega (arith, f .if1 .left, old-is (l .before), l .limit .ensures)))
 
 returns-4 : tie.Need-returns-4
 returns-4 c =
     let j = c .before .before in
-    let x = j .before .before .before in
-    let v = x .before .before .before .before in
-    let s = start-l (live-v v) in
-    let l : total v ≤ 64 = omega (arith, j .before .before .if1 .left, ap length (old-is x)) in
-    ap (λ (b : List ℕ). record { stored = Version (v .version .given .0 .0); table = b }) (j .join-at .ensures)
-    ∙ at-slot (live-v v) _ (join-fits _ _ _ _ (is-live (live-v v)) _ (endOf (s .args .end)) (s .args .value .now) _ (version-is v) l)
+    let a = j .before .before .before in
+    let l = a .before .before in
+    let r = l .before .before in
+    let v = r .before .before .before in
+    let s = start (v .before .before) in
+    let t = s .args .table .now in
+    let g = s .args .target in
+    puts-joined t g _ _ (here (v .before .before)) _ _ (s .pre .0) (modelTerms (s .args .join .terms)) (modelEnd (s .args .join .end)) _ _
+    (put-at t g _ (modelTerms (s .args .join .terms)) _ _ (risen v) (omega (arith, a .before .if1 .left, whole (l .before), l .limit .ensures)) (slot-live t g _ _ (here (v .before .before))))
+    _ (a .attributes-after .ensures) _ (j .before .at-front .ensures) (j .join .ensures)
 
 pub join-value-spec : {M : Type 1} → statement M
 join-value-spec =
     tie.close
     (tie.spec
-    enum-known-live
-    enum-told
-    store-value-requires
-    same-length
+    (λ c. search needs)
+    (λ c κs. search needs)
+    (λ c. search needs)
     returns
-    version-after-requires
-    enum-known-version
-    enum-told-2
-    same-length-2
+    (λ c κs. search needs)
+    (λ c. search needs)
+    (λ c. search needs)
     returns-2
     record-at-requires
-    value-requires
-    add-if1
-    same-length-3
+    (λ c κs. search needs)
+    (λ c κs. search needs)
+    (λ c. search needs)
+    (λ c. search needs)
     returns-3
-    join-at-requires
-    same-length-4
+    (λ c κs. search needs)
+    (λ c κs. search needs)
+    join-requires
+    (λ c. search needs)
     returns-4)

@@ -1,19 +1,30 @@
 -- `put::store_number` meets its contract: the part of the local array that is handed on is the number's text.
-use mathlib.Core.Path.{_≡_, ap, _∙_}
+use borrow.Author.Needs.{needs}
+use mathlib.Core.Path.{_≡_, ap, _∙_, subst}
 use mathlib.Core.List.{List}
 use mathlib.Core.Option.{none}
-use Prim.Native.Nat.{ℕ, _≤_}
+use Prim.Native.Nat.{ℕ, suc, _≤_}
 use native.Mathlib.Omega.{arith}
 use lib.ListN.{length, take}
-use lib.IntN.{ℤ}
+use lib.IntN.{ℤ, pos, negsuc}
+use mir.Syntax.{w64}
+use mir.Val.{SFits}
 use Rattle.model.specs.Number.{intText}
-use Rattle.command.specs.Command.{changeOf, expireOf}
+use Rattle.model.proofs.Numbers.{length-natText}
+use Rattle.slice.proofs.Writing.{wrote-front}
 use Rattle.number.proofs.Integers.{back-is}
-use Rattle.put.specs.Put.{putting, leftBy}
-use Rattle.put.proofs.Texts.{length-intText, wrote-front}
-use borrow.Author.Needs.{needs}
+use Rattle.record.specs.declared.Form.{Form}
+use Rattle.record.specs.declared.Form.the-variants.{Of128, Of192}
+use Rattle.record.specs.Forms.{formOf}
+use Rattle.command.specs.Command.{modelTerms}
+use Rattle.live.specs.Under.{shapeOf}
+use Rattle.put.specs.Put.{putIn, Puts}
 use Rattle.put.proofs.store_number.Statement.{statement}
 use Rattle.put.proofs.store_number.Tie as tie
+
+length-intText : (z : ℤ) → SFits w64 z → length (intText z) ≤ 20
+length-intText (pos n) f = omega (arith, length-natText 18 n (omega (arith, f .sfits)))
+length-intText (negsuc n) f = omega (arith, length-natText 18 (suc n) (omega (arith, f .sfits)))
 
 abbrev start : tie.After-write-signed → tie.Start
 start c = c .before .before .before .before
@@ -27,8 +38,10 @@ length-is c = let e = ap (λ (z : ℤ). length (intText z)) (back-is (start c .f
 fits : (c : tie.After-write-signed) → length (intText (start c .args .z)) ≤ 20
 fits c = length-intText (start c .args .z) (start c .fits .z)
 
-slice-aggregate-write-signed : tie.Need-slice-aggregate-write-signed
-slice-aggregate-write-signed c = search needs
+-- a value of every form has room for the text of a number
+least : (f : Form) → 20 ≤ formOf f .valueLimit
+least Of128 = omega arith
+least Of192 = omega arith
 
 write-signed-requires : tie.Need-write-signed-requires
 write-signed-requires c κs =
@@ -48,27 +61,23 @@ slice-aggregate-store-value c =
 store-value-requires : tie.Need-store-value-requires
 store-value-requires c κs =
     let w = c .before .before .before in
-    (start w .pre .0, (start w .pre .1, omega (arith, fits w, ap length (text-is w))))
-
-same-length : tie.Need-same-length
-same-length c = search needs
+    (start w .pre .0, (start w .pre .1, omega (arith, fits w, ap length (text-is w), least (start w .args .target .form))))
 
 returns : tie.Need-returns
 returns c =
     let v = c .before .before in
     let w = v .before .before .before .before in
     let s = start w in
-    v .store-value .ensures
-    ∙ ap (λ (b : List ℕ). leftBy (s .args .table .now) (putting (s .args .time) (s .args .table .now) (s .args .key .now) (s .args .live) (changeOf (s .args .change)) (expireOf (s .args .expire)) none b)) (text-is w)
+    subst (λ (b : List ℕ). Puts (shapeOf (s .args .target)) (s .args .table .now) (v .store-value .last .0) (v .store-value .result) (putIn (s .args .table .now) (s .args .target) (s .args .key .now) (modelTerms (s .args .terms)) none b)) (text-is w) (v .store-value .ensures)
 
 pub store-number-spec : {M : Type 1} → statement M
 store-number-spec =
     tie.close
     (tie.spec
-    slice-aggregate-write-signed
+    (λ c. search needs)
     write-signed-requires
     array-share-prefix-text
     slice-aggregate-store-value
     store-value-requires
-    same-length
+    (λ c. search needs)
     returns)

@@ -1,119 +1,71 @@
--- `put::store_value` meets its contract: each refusal is the model's, and the record is stored with the fields that the model's has.
-use mathlib.Core.Path.{_≡_, sym, ap, _∙_}
-use mathlib.Core.List.{List}
-use Prim.Native.Nat.{ℕ}
-use Rattle.model.specs.Table.{used, form128}
-use Rattle.model.specs.Execute.{versionAfter, placeOf}
-use Rattle.command.specs.Command.{changeOf}
-use Rattle.table.specs.Slots.{slotsOf, foundFrom}
-use Rattle.table.specs.declared.Found.the-variants.{At}
-use Rattle.change.specs.Slot.{withSlot}
-use Rattle.live.specs.Live.{liveOf, versionFrom}
-use Rattle.live.specs.declared.Version.the-variants.{Value}
-use Rattle.put.specs.Put.{leftBy}
-use Rattle.put.specs.declared.Stored.the-variants.{Version}
-use Rattle.put.proofs.Tests.{put-top, put-full, put-at, place-within}
+-- `put::store_value` meets its contract, test by test.
 use borrow.Author.Needs.{needs}
+use mathlib.Core.Path.{_≡_, sym, ap, _∙_}
+use Rattle.model.specs.Checked.{ok, given}
+use Rattle.model.specs.Execute.{versionAfter}
+use Rattle.command.specs.Command.{modelChange, modelTerms}
+use Rattle.live.specs.Under.{storedIn, slotIn}
+use Rattle.live.specs.After.{checkedVersion}
+use Rattle.put.specs.Put.{checkedSlot}
+use Rattle.put.proofs.Putting.{put-highest, put-full, put-at, puts-refused, puts-stored, slot-within}
 use Rattle.put.proofs.store_value.Statement.{statement}
 use Rattle.put.proofs.store_value.Tie as tie
 
--- the version and the slot, where they are known
-abbrev start-v : tie.After-version → tie.Start
-start-v c = c .before .before .before .before .before .before .before
+abbrev start : tie.After-version-after → tie.Start
+start v = v .before .before .before .before
 
-version-is : (c : tie.After-version)
-    → versionFrom (versionAfter (changeOf (start-v c .args .change)) (liveOf (start-v c .args .table .now) (start-v c .args .live))) ≡ Value (c .version .given .0 .0)
-version-is c = sym (c .before .before .version-after .ensures) ∙ c .version .given .1
+risen : (c : tie.After-version) → versionAfter (modelChange (start (c .before .before) .args .terms .change)) (storedIn (start (c .before .before) .args .target .found)) ≡ ok (c .version .given .0 .0)
+risen c = sym (c .before .before .version-after .ensures) ∙ ap checkedVersion (c .version .given .1)
 
-abbrev start-s : tie.After-slot → tie.Start
-start-s c = start-v (c .before .before .before .before .before)
+abbrev begun : tie.After-slot → tie.Start
+begun c = start (c .before .before .before .before .before .before .before)
 
-slot-is : (c : tie.After-slot)
-    → foundFrom (placeOf form128 (start-s c .args .time) (slotsOf (start-s c .args .table .now)) (start-s c .args .key .now) (liveOf (start-s c .args .table .now) (start-s c .args .live)))
-    ≡ At (c .slot .given .0 .0)
-slot-is c = sym (c .before .before .place .ensures) ∙ c .slot .given .1
-
-version-after-requires : tie.Need-version-after-requires
-version-after-requires c κs = search needs
-
-enum-known-version : tie.Need-enum-known-version
-enum-known-version c = search needs
-
-enum-told : tie.Need-enum-told
-enum-told c = search needs
-
-same-length : tie.Need-same-length
-same-length c = search needs
+taken : (c : tie.After-slot) → given 17 (slotIn (begun c .args .table .now) (begun c .args .target)) ≡ ok (c .slot .given .0 .0)
+taken c = sym (c .before .before .place .ensures) ∙ ap checkedSlot (c .slot .given .1)
 
 returns : tie.Need-returns
 returns c =
-    let d = c .before .before in
-    sym (ap (leftBy _) (put-top _ _ _ _ _ _ _ _ (sym (d .version-after .ensures) ∙ c .enum-told .given .1)))
-
-place-requires : tie.Need-place-requires
-place-requires c κs = search needs
-
-enum-known-slot : tie.Need-enum-known-slot
-enum-known-slot c = search needs
-
-enum-told-2 : tie.Need-enum-told-2
-enum-told-2 c = search needs
-
-same-length-2 : tie.Need-same-length-2
-same-length-2 c = search needs
+    let v = c .before .before in
+    let s = start v in
+    puts-refused _ (s .args .table .now) _ 15 (put-highest (s .args .table .now) (s .args .target) _ (modelTerms (s .args .terms)) _ _ (sym (v .version-after .ensures) ∙ ap checkedVersion (c .enum-told .given .1)))
 
 returns-2 : tie.Need-returns-2
 returns-2 c =
     let p = c .before .before in
     let v = p .before .before .before in
-    sym (ap (leftBy _) (put-full _ _ _ _ _ _ _ _ (v .version .given .0 .0) (version-is v) (start-v v .pre .1 .1) (sym (p .place .ensures) ∙ c .enum-told2 .given .1)))
-
-flags-after-requires : tie.Need-flags-after-requires
-flags-after-requires c κs = search needs
-
-expiry-after-requires : tie.Need-expiry-after-requires
-expiry-after-requires c κs = search needs
+    let s = start (v .before .before) in
+    puts-refused _ (s .args .table .now) _ 17
+    (put-full (s .args .table .now) (s .args .target) _ (modelTerms (s .args .terms)) _ _ (risen v) (s .pre .1 .1) (sym (p .place .ensures) ∙ ap checkedSlot (c .enum-told2 .given .1)))
 
 store-requires : tie.Need-store-requires
 store-requires c κs =
-    let p = c .before .before .before .before .before .before in
-    let s = start-v (p .before .before .before .before .before) in
-    (s .pre .0 .reads, (place-within (s .args .time) (s .args .table .now) (s .args .key .now) (s .args .live) _ (s .pre .0) (slot-is p), s .pre .1))
-
-same-length-3 : tie.Need-same-length-3
-same-length-3 c = search needs
+    let o = c .before .before .before in
+    let s = start (o .before .before .before .before .before .before .before) in
+    (s .pre .0 .reads, (slot-within (s .args .table .now) (s .args .target) _ (s .pre .0 .at) (taken o), s .pre .1))
 
 returns-3 : tie.Need-returns-3
 returns-3 c =
-    let st = c .before .before in
-    let x = st .before .before in
-    let f = x .before .before in
-    let p = f .before .before .before in
-    let v = p .before .before .before .before .before in
-    let s = start-v v in
-    let t = s .args .table .now in
-    let n = v .version .given .0 .0 in
-    let i = p .slot .given .0 .0 in
-    let bytes = st .store .ensures ∙ (λ j. withSlot t i (used (record { key = s .args .key .now; value = s .args .value .now; flags = f .flags-after .ensures j; version = n; expiry = x .expiry-after .ensures j }))) in
-    ap (λ (b : List ℕ). record { stored = Version n; table = b }) bytes
-    ∙ sym (ap (leftBy _) (put-at _ _ _ _ _ _ _ _ n (version-is v) i (s .pre .1 .1) (slot-is p)))
+    let a = c .before .before .before .before in
+    let o = a .before .before in
+    let v = o .before .before .before .before .before in
+    let s = start (v .before .before) in
+    puts-stored (s .args .table .now) _ (s .args .target) _ (modelTerms (s .args .terms)) _ _ _ _ _ (a .attributes-after .ensures)
+    (put-at (s .args .table .now) (s .args .target) _ (modelTerms (s .args .terms)) _ _ (risen v) (s .pre .1 .1) (taken o)) (c .before .before .store .ensures)
 
 pub store-value-spec : {M : Type 1} → statement M
 store-value-spec =
     tie.close
     (tie.spec
-    version-after-requires
-    enum-known-version
-    enum-told
-    same-length
+    (λ c κs. search needs)
+    (λ c. search needs)
+    (λ c. search needs)
     returns
-    place-requires
-    enum-known-slot
-    enum-told-2
-    same-length-2
+    (λ c κs. search needs)
+    (λ c. search needs)
+    (λ c. search needs)
+    (λ c. search needs)
     returns-2
-    flags-after-requires
-    expiry-after-requires
+    (λ c κs. search needs)
     store-requires
-    same-length-3
+    (λ c. search needs)
     returns-3)

@@ -29,15 +29,6 @@ value (some m) n b e t =
 said : (c : tie.After-n) → Value (c .n .given .0 .0) ≡ naturalFrom (readVersion (c .before .before .before .before .args .s .now))
 said c = sym (c .n .given .1) ∙ c .before .before .read-version .ensures
 
-read-version-requires : tie.Need-read-version-requires
-read-version-requires c κs = search needs
-
-enum-known-n : tie.Need-enum-known-n
-enum-known-n c = search needs
-
-enum-told : tie.Need-enum-told
-enum-told c = search needs
-
 returns : tie.Need-returns
 returns c =
     let r = c .before .before in
@@ -55,4 +46,4 @@ returns-3 c =
 
 pub read-records-spec : {M : Type 1} → statement M
 read-records-spec =
-    tie.close (tie.spec read-version-requires enum-known-n enum-told returns returns-2 returns-3)
+    tie.close (tie.spec (λ c κs. search needs) (λ c. search needs) (λ c. search needs) returns returns-2 returns-3)

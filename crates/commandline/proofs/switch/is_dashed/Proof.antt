@@ -19,14 +19,5 @@ first : (w : List ℕ) → eqb (getD w 0 0) 45 ≡ dashed w
 first [] = refl
 first (c ∷ s) = refl
 
-returns : tie.Need-returns
-returns c = none (c .before .args .w .now) (c .if1 .taken)
-
-shared-slice-read-result : tie.Need-shared-slice-read-result
-shared-slice-read-result c = search needs
-
-returns-2 : tie.Need-returns-2
-returns-2 c = first (c .before .before .args .w .now)
-
 pub is-dashed-spec : {M : Type 1} → statement M
-is-dashed-spec = tie.close (tie.spec returns shared-slice-read-result returns-2)
+is-dashed-spec = tie.close (tie.spec (λ c. none (c .before .args .w .now) (c .if1 .taken)) (λ c. search needs) (λ c. first (c .before .before .args .w .now)))

@@ -8,9 +8,6 @@ use Rattle.commandline.proofs.words.add_word.Tie as tie
 returns : tie.Need-returns
 returns c = let s = c .before .before .before in full (s .args .at) (s .args .word .now) (s .args .out .now) (omega arith)
 
-sub-if2 : tie.Need-sub-if2
-sub-if2 c = search needs
-
 returns-2 : tie.Need-returns-2
 returns-2 c = let s = c .before .before .before .before in full (s .args .at) (s .args .word .now) (s .args .out .now) (omega arith)
 
@@ -19,9 +16,6 @@ put-bulk-requires c κs =
     let s = c .before .before .before .before .before in
     room (s .args .at) (s .args .word .now) (s .args .out .now) (omega arith) (s .pre)
 
-same-length : tie.Need-same-length
-same-length c = search needs
-
 returns-3 : tie.Need-returns-3
 returns-3 c =
     let s = c .before .before .before .before .before .before .before .before in
@@ -29,4 +23,4 @@ returns-3 c =
 
 pub add-word-spec : {M : Type 1} → statement M
 add-word-spec =
-    tie.close (tie.spec returns sub-if2 returns-2 put-bulk-requires same-length returns-3)
+    tie.close (tie.spec returns (λ c. search needs) returns-2 put-bulk-requires (λ c. search needs) returns-3)

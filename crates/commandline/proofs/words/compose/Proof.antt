@@ -12,34 +12,10 @@ Inv-loop first count out₀ at₀ place₀ out at place = Unit {0}
 abbrev μ-loop : tie.MeasureT-loop
 μ-loop first count out₀ at₀ place₀ out at place = count - place
 
-returns : tie.Need-returns Inv-loop μ-loop
-returns c = search needs
-
-sub-put-array : tie.Need-sub-put-array Inv-loop μ-loop
-sub-put-array c = search needs
-
 put-array-requires : tie.Need-put-array-requires Inv-loop μ-loop
 put-array-requires c κs =
     let s = c .before .before in
     omega (arith, line-short 42 (s .args .count - s .args .first) (omega arith))
-
-loop-holds : tie.Need-loop-holds Inv-loop μ-loop
-loop-holds c = search needs
-
-add-argument-requires : tie.Need-add-argument-requires Inv-loop μ-loop
-add-argument-requires c κs = search needs
-
-add-place : tie.Need-add-place Inv-loop μ-loop
-add-place c = search needs
-
-loop-less : tie.Need-loop-less Inv-loop μ-loop
-loop-less c = search needs
-
-loop-again : tie.Need-loop-again Inv-loop μ-loop
-loop-again c = search needs
-
-returns-2 : tie.Need-returns-2 Inv-loop μ-loop
-returns-2 c = search needs
 
 pub compose-spec : {M : Type 1} → statement M
 compose-spec =
@@ -47,12 +23,12 @@ compose-spec =
     (tie.spec
     Inv-loop
     μ-loop
-    returns
-    sub-put-array
+    (λ c. search needs)
+    (λ c. search needs)
     put-array-requires
-    loop-holds
-    add-argument-requires
-    add-place
-    loop-less
-    loop-again
-    returns-2)
+    (λ c. search needs)
+    (λ c κs. search needs)
+    (λ c. search needs)
+    (λ c. search needs)
+    (λ c. search needs)
+    (λ c. search needs))

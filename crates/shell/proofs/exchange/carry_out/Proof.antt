@@ -12,15 +12,6 @@ use Rattle.shell.proofs.exchange.carry_out.Tie as tie
 abbrev outcome : tie.Start → Outcome
 outcome c = call form128 (c .args .table .now) (c .args .time) (c .args .command .now) (c .args .reply .now)
 
-call-requires : tie.Need-call-requires
-call-requires c κs = search needs
-
-same-length : tie.Need-same-length
-same-length c = search needs
-
-same-length-2 : tie.Need-same-length-2
-same-length-2 c = search needs
-
 returns : tie.Need-returns
 returns c =
     let e = c .before .before .before .before .before .before in
@@ -29,15 +20,6 @@ returns c =
       called = e .call .ensures;
       writes = rw (ne-eqb (o .number) 0 (λ z. c .if1 .taken (e .call .ensures .number ∙ z)));
     }
-
-same-requires : tie.Need-same-requires
-same-requires c κs = search needs
-
-same-length-3 : tie.Need-same-length-3
-same-length-3 c = search needs
-
-same-length-4 : tie.Need-same-length-4
-same-length-4 c = search needs
 
 returns-2 : tie.Need-returns-2
 returns-2 c =
@@ -52,11 +34,11 @@ pub carry-out-spec : {M : Type 1} → statement M
 carry-out-spec =
     tie.close
     (tie.spec
-    call-requires
-    same-length
-    same-length-2
+    (λ c κs. search needs)
+    (λ c. search needs)
+    (λ c. search needs)
     returns
-    same-requires
-    same-length-3
-    same-length-4
+    (λ c κs. search needs)
+    (λ c. search needs)
+    (λ c. search needs)
     returns-2)

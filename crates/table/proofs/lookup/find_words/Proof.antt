@@ -1,106 +1,87 @@
--- `table::lookup::find_words` meets its contract. The loop's invariant: the lowest slot that holds the key is the lowest of those left.
-use Prim.Native.Nat.{_-_}
-use native.Mathlib.Omega.{arith}
-use mathlib.Core.Path.{_≡_, refl, sym, ap, _∙_}
+-- `table::find_words` meets its contract. The loop's invariant: the lowest slot that holds the key is the lowest of those left.
+use Prim.Native.Nat.{_+_, _-_}
+use mathlib.Core.Path.{_≡_, refl, sym, ap, subst, _∙_}
 use lib.ListN.{getD}
-use borrow.Author.Needs.{needs}
-use Rattle.model.specs.Table.{empty, holds}
-use Rattle.slice.proofs.LittleEndian.{Bytes}
-use Rattle.record.proofs.KeyWords.{hasWordsOf, holds-words}
+use Rattle.model.specs.Table.{empty, holds, recordAt}
+use Rattle.record.specs.Forms.{formOf}
+use Rattle.record.specs.Record.{IsSlot, hasKey}
+use Rattle.record.proofs.Forms.{lawful-form}
+use Rattle.record.proofs.KeyWords.{holds-key}
 use Rattle.table.specs.Slots.{slotsOf, lowestFrom}
-use Rattle.table.proofs.Search.{Searched, search-here, search-next, search-end}
-use Rattle.table.proofs.Parts.{lent, bytes-lent, count, lent-slot, lent-readable}
+use Rattle.table.proofs.Records.{inside-table, count-is}
+use Rattle.table.proofs.Search.{Searched, search-here, search-next, search-on, search-end}
+use Rattle.table.proofs.Parts.{slot-is, slot-readable, is-slot, none-holds}
+use native.Mathlib.Omega.{arith}
+use borrow.Author.Needs.{needs}
 use Rattle.table.proofs.lookup.find_words.Statement.{statement}
 use Rattle.table.proofs.lookup.find_words.Tie as tie
 
 abbrev Inv-loop : tie.InvT-loop
-Inv-loop table first key a b c size n i₀ i =
-    Searched (holds key) (slotsOf table) (lowestFrom (holds key) (slotsOf table) first) n i
+Inv-loop table form first key a b n i₀ i =
+    Searched (holds key) (slotsOf (formOf form) table) (lowestFrom (holds key) (slotsOf (formOf form) table) first) n i
 
 abbrev μ-loop : tie.MeasureT-loop
-μ-loop table first key a b c size n i₀ i = n - i
-
-cast-size : tie.Need-cast-size Inv-loop μ-loop
-cast-size c = omega (arith, c .before .before .pre .1 .1 .short)
+μ-loop table form first key a b n i₀ i = n - i
 
 loop-holds : tie.Need-loop-holds Inv-loop μ-loop
 loop-holds c =
-    let s = c .before .before in
+    let s = c .before .before .before .before in
+    let f = formOf (s .args .form) in
     let t = s .args .table .now in
-    record { within = omega (arith, count t (s .pre .0), s .pre .1 .0); all = count t (s .pre .0); left = refl }
+    let k = s .args .key .now in
+    let all = c .before .count .ensures ∙ count-is f t (s .pre .0) in
+    let found = c .next-like .ensures in
+    let begun : Searched (holds k) (slotsOf f t) (lowestFrom (holds k) (slotsOf f t) (s .args .first)) (c .before .count .result) (s .args .first) =
+    record { within = omega (arith, all, s .pre .1 .0); all = all; left = refl } in
+    search-on (c .next-like .result) begun (found .0) (omega (arith, all, found .1))
+    (none-holds f t (s .pre .0) k (s .args .a) (s .args .b) (s .args .first) (c .next-like .result) (s .pre .1 .1) (found .1) (found .2))
 
-mul-from : tie.Need-mul-from Inv-loop μ-loop
-mul-from c = search needs
-
-add-has-key : tie.Need-add-has-key Inv-loop μ-loop
-add-has-key c = search needs
-
-sub-has-key : tie.Need-sub-has-key Inv-loop μ-loop
-sub-has-key c = search needs
-
-part-has-key-start : tie.Need-part-has-key-start Inv-loop μ-loop
-part-has-key-start c = search needs
-
-part-has-key-end : tie.Need-part-has-key-end Inv-loop μ-loop
-part-has-key-end c = search needs
+slot-requires : tie.Need-slot-requires Inv-loop μ-loop
+slot-requires c κs = let s = c .before .before .before .before .before .before in inside-table (formOf (s .args .form)) (s .args .table .now) (s .pre .0) (c .before .loop .i) (omega arith)
 
 has-key-requires : tie.Need-has-key-requires Inv-loop μ-loop
 has-key-requires c κs =
     let l = c .before .before in
-    let s = l .before .before .before in
-    lent-readable (s .args .table .now) (s .pre .0) (l .loop .i) (omega arith) .size
+    let s = l .before .before .before .before .before in
+    let slot = is-slot (formOf (s .args .form)) (s .args .table .now) (s .pre .0) (l .loop .i) (omega arith) (lawful-form (s .args .form)) in
+    subst IsSlot (sym (c .slot .ensures)) slot
 
 -- what the call said of the slot
 told : (c : tie.After-has-key Inv-loop μ-loop)
-    → c .has-key .result ≡ holds (c .before .before .before .before .before .before .args .key .now)
-    (getD (slotsOf (c .before .before .before .before .before .before .args .table .now)) (c .before .before .before .loop .i) empty)
+    → let l = c .before .before .before in
+    let s = l .before .before .before .before .before in
+    c .has-key .result ≡ holds (s .args .key .now) (getD (slotsOf (formOf (s .args .form)) (s .args .table .now)) (l .loop .i) empty)
 told c =
     let l = c .before .before .before in
-    let s = l .before .before .before in
+    let s = l .before .before .before .before .before in
+    let f = formOf (s .args .form) in
     let t = s .args .table .now in
     let k = s .args .key .now in
-    let w = s .pre .1 .1 in
-    let said : c .has-key .result ≡ hasWordsOf k (lent (l .loop .i) t) = rw (w .low, w .mid, w .high) at (c .has-key .ensures) in
-    let known : Bytes k = λ j. l .before .shared-slice-known2 .given j .fits in
-    let bytes : Bytes (lent (l .loop .i) t) = bytes-lent (l .loop .i) t (λ j. l .before .before .shared-slice-known .given j .fits) in
-    said ∙ holds-words k (lent (l .loop .i) t) (w .short) known bytes (lent-readable t (s .pre .0) (l .loop .i) (omega arith))
-    ∙ ap (holds k) (lent-slot t (s .pre .0) (l .loop .i) (omega arith))
+    let i = l .loop .i in
+    c .has-key .ensures ∙ ap (hasKey k) (c .before .slot .ensures) ∙ holds-key f k (recordAt f i t) (slot-readable f t (s .pre .0) i (omega arith))
+    ∙ ap (holds k) (slot-is f t (s .pre .0) i (omega arith))
 
 returns : tie.Need-returns Inv-loop μ-loop
 returns c =
     let l = c .before .before .before in
     search-here (l .before .loop .inv) (l .loop-test .taken) (sym (told (c .before)) ∙ c .if1 .taken)
 
-add-i : tie.Need-add-i Inv-loop μ-loop
-add-i c = search needs
-
-loop-less : tie.Need-loop-less Inv-loop μ-loop
-loop-less c = search needs
-
 loop-again : tie.Need-loop-again Inv-loop μ-loop
 loop-again c =
-    let l = c .before .before .before in
-    search-next (l .before .loop .inv) (l .loop-test .taken) (sym (told (c .before)) ∙ c .if1 .left)
-
-returns-2 : tie.Need-returns-2 Inv-loop μ-loop
-returns-2 c = search-end (c .before .loop .inv) (c .loop-test .left)
+    let s = c .before .before .before .before .before .before .before .before .before .before in
+    let f = formOf (s .args .form) in
+    let t = s .args .table .now in
+    let l = c .before .before .before .before in
+    let i = l .before .loop .i in
+    let inv = l .before .loop .inv in
+    let found = c .next-like2 .ensures in
+    search-on (c .next-like2 .result) (search-next inv (l .loop-test .taken) (sym (told (c .before .before)) ∙ c .before .if1 .left)) (found .0) (omega (arith, inv .all, found .1))
+    (none-holds f t (s .pre .0) (s .args .key .now) (s .args .a) (s .args .b) (i + 1) (c .next-like2 .result) (s .pre .1 .1) (found .1) (found .2))
 
 pub find-words-spec : {M : Type 1} → statement M
 find-words-spec =
     tie.close
     (tie.spec
-    Inv-loop
-    μ-loop
-    cast-size
-    loop-holds
-    mul-from
-    add-has-key
-    sub-has-key
-    part-has-key-start
-    part-has-key-end
-    has-key-requires
-    returns
-    add-i
-    loop-less
-    loop-again
-    returns-2)
+    Inv-loop μ-loop (λ c κs. search needs) (λ c κs. search needs) loop-holds slot-requires has-key-requires returns (λ c. search needs)
+    (λ c κs. search needs) (λ c. search needs) loop-again
+    (λ c. search-end (c .before .loop .inv) (c .loop-test .left)))

@@ -16,26 +16,11 @@ Inv-loop path n₀ n = (n ≤ length path) × (afterSlash path ≡ afterSlash (t
 abbrev μ-loop : tie.MeasureT-loop
 μ-loop path n₀ n = n
 
-loop-holds : tie.Need-loop-holds Inv-loop μ-loop
-loop-holds c = (search needs, ap afterSlash (sym (take-length (c .args .path .now))))
-
-sub-if1 : tie.Need-sub-if1 Inv-loop μ-loop
-sub-if1 c = search needs
-
-shared-slice-read-if1 : tie.Need-shared-slice-read-if1 Inv-loop μ-loop
-shared-slice-read-if1 c = search needs
-
 returns : tie.Need-returns Inv-loop μ-loop
 returns c =
     let l = c .before .before .before in
     let p = l .before .args .path .now in
     (sym (l .loop .inv .1 ∙ slash p (l .loop .n) (omega arith) (omega arith) (c .if1 .taken)), search needs)
-
-sub-n : tie.Need-sub-n Inv-loop μ-loop
-sub-n c = search needs
-
-loop-less : tie.Need-loop-less Inv-loop μ-loop
-loop-less c = search needs
 
 loop-again : tie.Need-loop-again Inv-loop μ-loop
 loop-again c =
@@ -57,11 +42,11 @@ folder-spec =
     (tie.spec
     Inv-loop
     μ-loop
-    loop-holds
-    sub-if1
-    shared-slice-read-if1
+    (λ c. (search needs, ap afterSlash (sym (take-length (c .args .path .now)))))
+    (λ c. search needs)
+    (λ c. search needs)
     returns
-    sub-n
-    loop-less
+    (λ c. search needs)
+    (λ c. search needs)
     loop-again
     returns-2)

@@ -6,8 +6,8 @@ use mathlib.Core.List.{_++_}
 use lib.ListN.{length}
 use borrow.Author.Needs.{needs}
 use Rattle.model.specs.Bytes.{text}
-use Rattle.number.specs.Wrote.{Wrote}
-use Rattle.reply.proofs.Pieces.{room-first, room-after, wrote-then}
+use Rattle.slice.specs.Wrote.{Wrote}
+use Rattle.slice.proofs.Writing.{room-first, room-after, wrote-then}
 use Rattle.tablefile.proofs.name.put_new_name.Statement.{statement}
 use Rattle.tablefile.proofs.name.put_new_name.Tie as tie
 
@@ -23,17 +23,8 @@ room c = omega (arith, c .pre)
 copy-requires : tie.Need-copy-requires
 copy-requires c κs = let s = c .before .before .before in room-first 0 (s .args .path .now) (text ".new") (room s)
 
-slice-aggregate-copy : tie.Need-slice-aggregate-copy
-slice-aggregate-copy c = search needs
-
 copy-requires-2 : tie.Need-copy-requires-2
 copy-requires-2 c κs = let w = c .before .before .before .before in room-after (text ".new") (room (w .before .before .before .before)) (wrote-path w)
-
-add-result : tie.Need-add-result
-add-result c = search needs
-
-same-length : tie.Need-same-length
-same-length c = search needs
 
 returns : tie.Need-returns
 returns c =
@@ -44,4 +35,4 @@ returns c =
 pub put-new-name-spec : {M : Type 1} → statement M
 put-new-name-spec =
     tie.close
-    (tie.spec copy-requires slice-aggregate-copy copy-requires-2 add-result same-length returns)
+    (tie.spec copy-requires (λ c. search needs) copy-requires-2 (λ c. search needs) (λ c. search needs) returns)

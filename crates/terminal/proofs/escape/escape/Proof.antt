@@ -8,8 +8,8 @@ use lib.ListN.{length, take, getD}
 use lib.Seq.{take-all}
 use borrow.Author.Needs.{needs}
 use Rattle.slice.proofs.Written.{written-nil}
-use Rattle.number.specs.Wrote.{Wrote}
-use Rattle.reply.proofs.Pieces.{same-size, wrote-then}
+use Rattle.slice.specs.Wrote.{Wrote}
+use Rattle.slice.proofs.Writing.{same-size, wrote-then}
 use Rattle.terminal.specs.Escape.{escaped, escapedAll}
 use Rattle.terminal.proofs.Escapes.{escaped-short, escapedAll-next}
 use Rattle.terminal.proofs.escape.escape.Statement.{statement}
@@ -36,17 +36,8 @@ loop-holds c = record {
   wrote = record { place = refl; bytes = sym (written-nil 0 (c .before .before .args .out .now)) };
 }
 
-shared-slice-read-put-escaped : tie.Need-shared-slice-read-put-escaped Inv-loop μ-loop
-shared-slice-read-put-escaped c = search needs
-
 put-escaped-requires : tie.Need-put-escaped-requires Inv-loop μ-loop
 put-escaped-requires c κs = let l = c .before .before .before in omega (arith, l .loop .inv .few, l .loop .inv .size, l .before .before .before .pre)
-
-add-i : tie.Need-add-i Inv-loop μ-loop
-add-i c = search needs
-
-loop-less : tie.Need-loop-less Inv-loop μ-loop
-loop-less c = search needs
 
 loop-again : tie.Need-loop-again Inv-loop μ-loop
 loop-again c =
@@ -66,9 +57,6 @@ loop-again c =
           (escapedAll-next text (l .loop .i) (omega arith)) (wrote-then (omega arith) (v .wrote) step);
     }
 
-same-length : tie.Need-same-length Inv-loop μ-loop
-same-length c = c .before .loop .inv .size
-
 returns : tie.Need-returns Inv-loop μ-loop
 returns c =
     let l = c .before in
@@ -83,10 +71,10 @@ escape-spec =
     Inv-loop
     μ-loop
     loop-holds
-    shared-slice-read-put-escaped
+    (λ c. search needs)
     put-escaped-requires
-    add-i
-    loop-less
+    (λ c. search needs)
+    (λ c. search needs)
     loop-again
-    same-length
+    (λ c. c .before .loop .inv .size)
     returns)

@@ -6,30 +6,12 @@ use Rattle.terminal.specs.Escape.{letter, escaped}
 use Rattle.terminal.proofs.escape.put_escaped.Statement.{statement}
 use Rattle.terminal.proofs.escape.put_escaped.Tie as tie
 
-letter-requires : tie.Need-letter-requires
-letter-requires c κs = search needs
-
-put-plain-requires : tie.Need-put-plain-requires
-put-plain-requires c κs = search needs
-
-same-length : tie.Need-same-length
-same-length c = search needs
-
 returns : tie.Need-returns
 unfolding escaped
 returns c =
     let p = c .before .before in
     let l = p .before .before .before in
     rw (eq-eqb (letter (l .before .before .args .b)) 0 (sym (l .letter .ensures) ∙ p .before .before .if1 .taken)) (p .put-plain .ensures)
-
-slice-aggregate-put-bytes : tie.Need-slice-aggregate-put-bytes
-slice-aggregate-put-bytes c = search needs
-
-put-bytes-requires : tie.Need-put-bytes-requires
-put-bytes-requires c κs = search needs
-
-same-length-2 : tie.Need-same-length-2
-same-length-2 c = search needs
 
 returns-2 : tie.Need-returns-2
 unfolding escaped
@@ -42,11 +24,11 @@ pub put-escaped-spec : {M : Type 1} → statement M
 put-escaped-spec =
     tie.close
     (tie.spec
-    letter-requires
-    put-plain-requires
-    same-length
+    (λ c κs. search needs)
+    (λ c κs. search needs)
+    (λ c. search needs)
     returns
-    slice-aggregate-put-bytes
-    put-bytes-requires
-    same-length-2
+    (λ c. search needs)
+    (λ c κs. search needs)
+    (λ c. search needs)
     returns-2)

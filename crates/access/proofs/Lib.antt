@@ -1,2 +1,0 @@
--- Laws of answers, for this crate and those above it.
-pub mod Answers

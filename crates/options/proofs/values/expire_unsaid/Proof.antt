@@ -1,0 +1,13 @@
+-- `values::expire_unsaid` meets its contract: it is kept or cleared.
+use mathlib.Core.Path.{sym, ap}
+use mathlib.Core.Bool.{Bool}
+use Rattle.model.specs.Options.{unsaid, expireIn}
+use Rattle.options.proofs.values.expire_unsaid.Statement.{statement}
+use Rattle.options.proofs.values.expire_unsaid.Tie as tie
+
+pub expire-unsaid-spec : {M : Type 1} → statement M
+expire-unsaid-spec =
+    tie.close
+    (tie.spec
+    (λ c time. sym (ap (λ (b : Bool). expireIn time b unsaid) (c .if1 .taken)))
+    (λ c time. sym (ap (λ (b : Bool). expireIn time b unsaid) (c .if1 .left))))

@@ -1,0 +1,50 @@
+-- What the gate answers, and what holds of a call that passed it. t, c and places are the bytes of the table and the command, and the array of its words' places.
+use Prim.Native.Nat.{ℕ, _≤_}
+use mathlib.Core.Path.{_≡_}
+use mathlib.Core.List.{List}
+use lib.ListN.{length}
+use Rattle.model.specs.Checked.{Checked, refuse, ok, _>>=_}
+use Rattle.model.specs.Table.{Form, timeLimit}
+use Rattle.model.specs.Gate.{Inputs, gate}
+use Rattle.model.specs.Parse.{parse}
+use Rattle.model.specs.Execute.{execute}
+use Rattle.record.specs.Forms.{formOf}
+use Rattle.table.specs.Slots.{Reads, slotsOf}
+use Rattle.resp.specs.Spans.{wordsOf, Splits}
+use Rattle.reply.specs.declared.Answer.{Answer}
+use Rattle.execute.specs.Does.{Held, Does}
+use Rattle.store.specs.declared.entry.Query.{Query}
+use Rattle.store.specs.declared.entry.Entry.{Entry}
+use Rattle.store.specs.declared.entry.Entry.the-variants.{Passed, Refused}
+
+-- the model's form of the records
+abbrev pub queryForm : Query → Form
+queryForm q = formOf (q .form)
+
+-- the number of words, or the number of the refusal
+abbrev pub checkedEntry : Entry → Checked ℕ
+checkedEntry (Passed n) = ok n
+checkedEntry (Refused n) = refuse n
+
+-- the model's gate
+abbrev pub gateIn : Query → (t c : List ℕ) → Checked Inputs
+gateIn q t c = gate (queryForm q) t (q .time) (q .room) c
+
+-- a call that passed the gate, with n words
+pub record Entered (q : Query) (t c places : List ℕ) (n : ℕ) : Type 0 where
+  pub is : gateIn q t c ≡ ok (record { slots = slotsOf (queryForm q) t; words = wordsOf c })
+  pub reads : Reads (queryForm q) t
+  pub time : q .time ≤ timeLimit
+  pub room : queryForm q .replyRoom ≤ q .room
+  pub splits : Splits c places
+  pub count : n ≡ length (wordsOf c)
+
+-- what the gate answers, and the array that it leaves
+pub record Gates (q : Query) (t c places : List ℕ) (r : Entry) : Type 0 where
+  pub answer : checkedEntry r ≡ (gateIn q t c >>= λ (i : Inputs). ok (length (i .words)))
+  pub passed : (n : ℕ) → r ≡ Passed n → Entered q t c places n
+
+-- the answer a and the bytes, from `old` to `new`, are those of the command c after the gate
+abbrev pub Runs : Query → (c : List ℕ) → (old new : Held) → Answer → Type 0
+Runs q c old new a =
+    Does (queryForm q) old new (parse (queryForm q) (q .time) (wordsOf c) >>= execute (queryForm q) (q .time) (slotsOf (queryForm q) (old .table))) a

@@ -1,0 +1,114 @@
+// Where the current value of a key stands after an EXGET or EXCAS, found without doing the command: a part of the table or of the command.
+use crate::entry::Entry;
+use crate::entry::Query;
+use command::Action;
+use command::Change;
+use command::Parsed;
+use live::Lookup;
+use live::Target;
+use live::Version;
+use record::Form;
+use resp::Span;
+ghost use Prim.Native.Nat.{_≤_};
+ghost use mathlib.Core.Path.{_≡_};
+ghost use Rattle.model.specs.Table.{form128};
+ghost use Rattle.model.specs.CurrentValue.{currentValue, showsIn, orNothing};
+ghost use Rattle.record.specs.Forms.{formOf};
+ghost use Rattle.table.specs.Slots.{Reads, slotsOf, InUseAt};
+ghost use Rattle.resp.specs.Spans.{wordsOf};
+ghost use Rattle.live.specs.Under.{Sound, shapeOf};
+ghost use Rattle.store.specs.Gated.{queryForm, Entered};
+ghost use Rattle.store.specs.Shows.{modelShown};
+ghost use Rattle.store.specs.Current.{storedAt, swappedTo, shownBy, ActionAt};
+
+// No value, or where one begins and how long it is.
+pub enum Shown {
+    Nothing,
+    InTable { start: usize, len: usize },
+    InCommand { start: usize, len: usize },
+}
+
+// The value of the record in use at a slot.
+fn stored(table: &[u8], form: Form, slot: usize) -> Shown
+    requires { ⌜ Reads (formOf form) (now table) ⌝ }
+    requires { ⌜ InUseAt (formOf form) (now table) slot ⌝ }
+    ensures { λ r. ⌜ modelShown r ≡ storedAt (formOf form) (now (table .entry)) slot ⌝ }
+{
+    let len = record::value(table::record_at(table, form, slot)).len();
+    let start = table::start(table.len(), form, slot) + record::VALUE_AT;
+    Shown::InTable { start, len }
+}
+
+// The value of an EXCAS on the live record's own version; none where that is the highest.
+fn swapped(found: Lookup, value: Span) -> Shown
+    requires { ⌜ value .start ≤ value .end ⌝ }
+    ensures { λ r. ⌜ modelShown r ≡ swappedTo found value ⌝ }
+{
+    let Version::Value(_) = live::version_after(found, Change::Raise) else {
+        return Shown::Nothing;
+    };
+    let start = value.start as usize;
+    let end = value.end as usize;
+    Shown::InCommand {
+        start,
+        len: end - start,
+    }
+}
+
+// What an action shows; `value` is the place of the value that an EXCAS has.
+fn shown_by(table: &[u8], target: Target, action: Action, value: Span) -> Shown
+    requires { ⌜ Sound (shapeOf target) (now table) (target .found) ⌝ }
+    requires { ⌜ ActionAt action value ⌝ }
+    ensures { λ r. ⌜ modelShown r ≡ shownBy (now (table .entry)) target action value ⌝ }
+{
+    let found = target.found;
+    let form = target.form;
+    let Lookup::Live { slot, attributes } = found else {
+        return Shown::Nothing;
+    };
+    match action {
+        Action::Exget { with_flags: _ } => stored(table, form, slot),
+        Action::Excas(swap) => {
+            if swap.version != attributes.version {
+                return stored(table, form, slot);
+            }
+            swapped(found, value)
+        }
+        _ => Shown::Nothing,
+    }
+}
+
+// What a command that passed the gate shows.
+fn show(table: &[u8], query: Query, command: &[u8], places: &[u16; 32], count: usize) -> Shown
+    requires { ⌜ Entered query (now table) (now command) (now places) count ⌝ }
+    ensures { λ r. ⌜ modelShown r ≡ orNothing (showsIn (queryForm query) (query .time) (slotsOf (queryForm query) (now (table .entry))) (wordsOf (now (command .entry)))) ⌝ }
+{
+    let form = query.form;
+    let time = query.time;
+    match parse::parse(command, places, count, time, form) {
+        Parsed::Refused(_) => Shown::Nothing,
+        Parsed::Action(action) => {
+            let key = resp::word_at(command, places, 1);
+            let found = live::look_up(table, form, time, key);
+            let target = Target { form, time, found };
+            let value = resp::span_at(places, 2);
+            shown_by(table, target, action, value)
+        }
+    }
+}
+
+// Where the current value of a command stands, if it shows one. A refusal shows none.
+pub fn locate(table: &[u8], time: u64, command: &[u8]) -> Shown
+    ensures { λ r. ⌜ modelShown r ≡ currentValue form128 (now (table .entry)) time (now (command .entry)) ⌝ }
+{
+    let query = Query {
+        form: Form::Of128,
+        time,
+        room: record::room(Form::Of128),
+    };
+    let mut places = [0u16; 32];
+    match crate::entry::gate(table, query, command, &mut places) {
+        Entry::Refused(_) => Shown::Nothing,
+        Entry::Passed(count) => show(table, query, command, &places, count),
+    }
+}

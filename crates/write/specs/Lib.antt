@@ -1,2 +1,0 @@
-pub mod Does
-pub mod Finish
