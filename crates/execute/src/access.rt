@@ -77,12 +77,12 @@ pub fn exgae(table: &mut [u8], target: Target, expire: Expire, reply: &mut [u8])
     };
     let shown = exget(table, target, true, reply);
     let expiry = live::expiry_after(found, expire);
-    let changed = Attributes {
+    let touched = Attributes {
         flags: attributes.flags,
         version: attributes.version,
         expiry,
     };
-    table::set_attributes(table, form, slot, changed);
+    table::set_attributes(table, form, slot, touched);
     shown
 }
 

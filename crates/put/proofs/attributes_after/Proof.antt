@@ -9,4 +9,4 @@ attributes-after-spec =
     (tie.spec
     (λ c κs. search needs)
     (λ c κs. search needs)
-    (λ c. rw (c .before .flags-after .ensures, c .expiry-after .ensures)))
+    (λ c i. record { flags = c .before .flags-after .ensures i; version = c .before .before .args .version; expiry = c .expiry-after .ensures i }))
