@@ -79,12 +79,12 @@ isHead f b = all (headRules f b)
 abbrev pub word : (at : ℕ) → List ℕ → ℕ
 word at s = fromLittleEndian (part at 8 s)
 
--- whether the 24 bytes of a record's key, with the zeros after it, begin with the words a and b
-unfoldable pub beginsWith : (a b : ℕ) → List ℕ → Bool
-beginsWith a b r = let key = part keyAt keyLimit r in eqb (word 0 key) a && eqb (word 8 key) b
+-- whether the 24 bytes of a record's key, with the zeros after it, have the word w at a place
+unfoldable pub hasWord : (at w : ℕ) → List ℕ → Bool
+hasWord at w r = eqb (word at (part keyAt keyLimit r)) w
 
--- a key of at most 24 bytes and, with the zeros after it, its first two words
-pub record WordsOf (k : List ℕ) (a b : ℕ) : Type 0 where
+-- a key of at most 24 bytes has, with the zeros after it, the word w at a place
+pub record WordOf (k : List ℕ) (at w : ℕ) : Type 0 where
   pub short : length k ≤ keyLimit
-  pub low : a ≡ word 0 (padded keyLimit k)
-  pub high : b ≡ word 8 (padded keyLimit k)
+  pub within : at + 8 ≤ keyLimit
+  pub is : w ≡ word at (padded keyLimit k)

@@ -4,10 +4,10 @@ mod valid;
 mod writes;
 
 pub use fields::attributes_of;
-pub use fields::begins;
 pub use fields::expiry;
 pub use fields::flags;
 pub use fields::has_key;
+pub use fields::has_word;
 pub use fields::in_use;
 pub use fields::is_live;
 pub use fields::key;

@@ -8,6 +8,7 @@ use Rattle.model.specs.Table.{Form, timeLimit}
 use Rattle.model.specs.Gate.{Inputs, gate}
 use Rattle.model.specs.Parse.{parse}
 use Rattle.model.specs.Execute.{execute}
+use Rattle.record.specs.declared.Form as forms
 use Rattle.record.specs.Forms.{formOf}
 use Rattle.table.specs.Slots.{Reads, slotsOf}
 use Rattle.resp.specs.Spans.{wordsOf, Splits}
@@ -20,6 +21,10 @@ use Rattle.store.specs.declared.entry.Entry.the-variants.{Passed, Refuse
 -- the model's form of the records
 abbrev pub queryForm : Query → Form
 queryForm q = formOf (q .form)
+
+-- what is asked, from its parts
+abbrev pub asked : forms.Form → (time room : ℕ) → Query
+asked f time room = record { form = f; time = time; room = room }
 
 -- the number of words, or the number of the refusal
 abbrev pub checkedEntry : Entry → Checked ℕ

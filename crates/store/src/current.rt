@@ -101,13 +101,14 @@ fn show(table: &[u8], query: Query, command: &[u8], places: &[u16; 32], count: u
 pub fn locate(table: &[u8], time: u64, command: &[u8]) -> Shown
     ensures { λ r. ⌜ modelShown r ≡ currentValue form128 (now (table .entry)) time (now (command .entry)) ⌝ }
 {
+    let room = record::room(Form::Of128);
     let query = Query {
         form: Form::Of128,
         time,
-        room: record::room(Form::Of128),
+        room,
     };
     let mut places = [0u16; 32];
-    match crate::entry::gate(table, query, command, &mut places) {
+    match crate::entry::gate(table, Form::Of128, time, room, command, &mut places) {
         Entry::Refused(_) => Shown::Nothing,
         Entry::Passed(count) => show(table, query, command, &places, count),
     }

@@ -3,7 +3,7 @@ use record::Form;
 use resp::Count;
 ghost use mathlib.Core.Path.{_≡_};
 ghost use lib.ListN.{length};
-ghost use Rattle.store.specs.Gated.{Gates};
+ghost use Rattle.store.specs.Gated.{asked, Gates};
 
 // What is asked of a table: the form of its records, the time of the call, and the length of the reply buffer.
 pub struct Query {
@@ -18,14 +18,19 @@ pub enum Entry {
     Refused(u32),
 }
 
-// Tests the table, the time, the room for a reply and the command's bytes, in this order; `places` says where the command's words stand.
-pub fn gate(table: &[u8], query: Query, command: &[u8], places: &mut [u16; 32]) -> Entry
+// Tests the table, the time, the room for a reply and the command's bytes, in this order; `places` says where the command's words stand. The
+// form is a parameter by itself, so that it is known where the tests are compiled.
+pub fn gate(
+    table: &[u8],
+    form: Form,
+    time: u64,
+    room: usize,
+    command: &[u8],
+    places: &mut [u16; 32],
+) -> Entry
     requires { ⌜ length (now places) ≡ 32 ⌝ }
-    ensures { λ r. ⌜ Gates query (now (table .entry)) (now (command .entry)) (now (places .exit)) r ⌝ }
+    ensures { λ r. ⌜ Gates (asked form time room) (now (table .entry)) (now (command .entry)) (now (places .exit)) r ⌝ }
 {
-    let form = query.form;
-    let time = query.time;
-    let room = query.room;
     let least = record::room(form);
     if !integrity::records_ok(table, form) {
         return Entry::Refused(1);

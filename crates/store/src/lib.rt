@@ -51,13 +51,14 @@ fn run(
 pub fn call(table: &mut [u8], time: u64, command: &[u8], reply: &mut [u8]) -> Answer
     ensures { λ r. ⌜ Called (call form128 (now (table .entry)) time (now (command .entry)) (now (reply .entry))) r (now (table .exit)) (now (reply .exit)) ⌝ }
 {
+    let room = reply.len();
     let query = Query {
         form: Form::Of128,
         time,
-        room: reply.len(),
+        room,
     };
     let mut places = [0u16; 32];
-    match entry::gate(table, query, command, &mut places) {
+    match entry::gate(table, Form::Of128, time, room, command, &mut places) {
         Entry::Refused(number) => Answer { number, len: 0 },
         Entry::Passed(count) => run(table, query, command, &places, count, reply),
     }

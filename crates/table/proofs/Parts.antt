@@ -19,10 +19,10 @@ use Rattle.model.proofs.Records.{InRange, Kept, in-use-readSlot}
 use Rattle.model.proofs.Tables.{all-at, tableBytes-set}
 use Rattle.slice.proofs.Written.{length-part, part-is, part-back, drop-replicate}
 use Rattle.record.specs.Forms.{Lawful}
-use Rattle.record.specs.Record.{asSlot, Readable, InUseOf, InUse, IsSlot, Fits, Changed, WordsOf, beginsWith}
+use Rattle.record.specs.Record.{asSlot, Readable, InUseOf, InUse, IsSlot, Fits, Changed, WordOf, hasWord}
 use Rattle.record.proofs.Checking.{in-use-key}
-use Rattle.record.proofs.KeyWords.{beginsLike, holds-key, other-key}
-use Rattle.table.specs.Slots.{Reads, Inside, slotsOf, NoneBegins, recordOf, recordIn, InUseAt, withSlot, IsRecord}
+use Rattle.record.proofs.KeyWords.{wordLike, holds-key, other-key}
+use Rattle.table.specs.Slots.{Reads, Inside, slotsOf, NoneHas, recordOf, recordIn, InUseAt, withSlot, IsRecord}
 use Rattle.table.proofs.Records.{table-of, inside-table, slot-bytes, slot-at}
 
 -- the part that code borrows for slot i: it begins at i times the size, and is as long as the size
@@ -87,23 +87,23 @@ module _ (f : Form) (t : List ℕ) (ok : Reads f t) (i : ℕ) (h : i < length (s
       ∙ (λ j. written (p .begins j) (e j) (sym (table-of f t ok .bytes) j))
       ∙ sym (tableBytes-set f (slotsOf f t) i s (table-of f t ok .kept) h (ap length (sym e) ∙ size))
 
--- one record more that does not begin with the words
-pub none-next : (a b : ℕ) (f : Form) (t : List ℕ) (i n : ℕ) → NoneBegins a b f t i n → beginsWith a b (recordAt f n t) ≡ false → NoneBegins a b f t i (n + 1)
-none-next a b f t i n before here j low high = go (ltb j n) refl
+-- one record more that does not have the word
+pub none-next : (at w : ℕ) (f : Form) (t : List ℕ) (i n : ℕ) → NoneHas at w f t i n → hasWord at w (recordAt f n t) ≡ false → NoneHas at w f t i (n + 1)
+none-next at w f t i n before here j low high = go (ltb j n) refl
   where
-    go : (x : Bool) → ltb j n ≡ x → beginsWith a b (recordAt f j t) ≡ false
+    go : (x : Bool) → ltb j n ≡ x → hasWord at w (recordAt f j t) ≡ false
     go true e = before j low (ltb-true j n e)
     go false e =
         let is : n ≡ j = omega (arith, ltb-false j n e) in
-        subst (λ (m : ℕ). beginsWith a b (recordAt f m t) ≡ false) is here
+        subst (λ (m : ℕ). hasWord at w (recordAt f m t) ≡ false) is here
 
--- a record whose key does not begin with a key's words does not hold the key
-pub none-holds : (f : Form) (t : List ℕ) → Reads f t → (k : List ℕ) (a b i n : ℕ) → WordsOf k a b → n ≤ length (slotsOf f t) → NoneBegins a b f t i n
+-- a record whose key does not have a key's word at its place does not hold the key
+pub none-holds : (f : Form) (t : List ℕ) → Reads f t → (k : List ℕ) (at w i n : ℕ) → WordOf k at w → n ≤ length (slotsOf f t) → NoneHas at w f t i n
     → (j : ℕ) → i ≤ j → j < n → holds k (getD (slotsOf f t) j empty) ≡ false
-none-holds f t ok k a b i n w h others j low high =
+none-holds f t ok k at w i n is h others j low high =
     let r = slot-readable f t ok j (omega arith) in
-    let other : beginsLike k (recordAt f j t) ≡ false = (λ x. beginsWith (sym (w .low) x) (sym (w .high) x) (recordAt f j t)) ∙ others j low high in
-    ap (holds k) (sym (slot-is f t ok j (omega arith))) ∙ sym (holds-key f k (recordAt f j t) r) ∙ other-key f k (recordAt f j t) r other
+    let other : wordLike at k (recordAt f j t) ≡ false = (λ x. hasWord at (sym (is .is) x) (recordAt f j t)) ∙ others j low high in
+    ap (holds k) (sym (slot-is f t ok j (omega arith))) ∙ sym (holds-key f k (recordAt f j t) r) ∙ other-key f k (recordAt f j t) r at other
 
 -- ---- a slot in use
 

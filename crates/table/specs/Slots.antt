@@ -8,7 +8,7 @@ use lib.ListN.{length, getD, getElem?, drop, set}
 use Rattle.model.specs.Table.{Form, Slot, Record, empty, used, fields, recordSize, recordAt, tableBytes, readTable}
 use Rattle.model.specs.Search.{Placed, findKey, lowest}
 use Rattle.model.specs.Optional.{isSome}
-use Rattle.record.specs.Record.{InUse, beginsWith}
+use Rattle.record.specs.Record.{InUse, hasWord}
 use Rattle.table.specs.declared.Found.{Found}
 use Rattle.table.specs.declared.Found.the-variants.{At, Nothing}
 
@@ -37,9 +37,9 @@ keySlot k ss = Option·map (λ (p : Placed). p .at) (findKey k ss)
 unfoldable pub lowestFrom : (Slot → Bool) → List Slot → (i : ℕ) → Option ℕ
 lowestFrom p ss i = Option·map (λ (j : ℕ). i + j) (lowest p (drop i ss))
 
--- no record from the i-th to the one before the n-th has a key that begins with the words a and b
-abbrev pub NoneBegins : (a b : ℕ) → Form → (t : List ℕ) (i n : ℕ) → Type 0
-NoneBegins a b f t i n = (j : ℕ) → i ≤ j → j < n → beginsWith a b (recordAt f j t) ≡ false
+-- no record from the i-th to the one before the n-th has a key with the word w at a place
+abbrev pub NoneHas : (at w : ℕ) → Form → (t : List ℕ) (i n : ℕ) → Type 0
+NoneHas at w f t i n = (j : ℕ) → i ≤ j → j < n → hasWord at w (recordAt f j t) ≡ false
 
 -- the record of a slot; one of no bytes and zeros if the slot is empty
 abbrev pub recordOf : Slot → Record

@@ -2,17 +2,17 @@
 use crate::Found;
 use record::Form;
 use record::KEY_LIMIT;
-ghost use Prim.Native.Nat.{_≤_};
+ghost use Prim.Native.Nat.{_+_, _≤_};
 ghost use mathlib.Core.Path.{_≡_};
 ghost use lib.ListN.{length};
-ghost use Rattle.model.specs.Table.{holds, isEmpty};
+ghost use Rattle.model.specs.Table.{keyLimit, holds, isEmpty};
 ghost use Rattle.model.specs.Search.{lowest, isExpired, freeSlot};
 ghost use Rattle.record.specs.Forms.{formOf};
-ghost use Rattle.record.specs.Record.{WordsOf};
-ghost use Rattle.table.specs.Slots.{Reads, slotsOf, slotOf, keySlot, lowestFrom, NoneBegins};
+ghost use Rattle.record.specs.Record.{WordOf};
+ghost use Rattle.table.specs.Slots.{Reads, slotsOf, slotOf, keySlot, lowestFrom, NoneHas};
 
-// The lowest slot from `first` on whose record in use has the key. No record has a key longer than 24 bytes. The first two words of any other
-// are compared before the key itself is.
+// The lowest slot from `first` on whose record in use has the key. No record has a key longer than 24 bytes. One word of any other is
+// compared before the key itself is: its last eight bytes, or all of a shorter key with zeros after it.
 pub fn find_from(table: &[u8], form: Form, first: usize, key: &[u8]) -> Found
     requires { ⌜ Reads (formOf form) (now table) ⌝ }
     requires { ⌜ first ≤ length (slotsOf (formOf form) (now table)) ⌝ }
@@ -21,41 +21,46 @@ pub fn find_from(table: &[u8], form: Form, first: usize, key: &[u8]) -> Found
     if KEY_LIMIT < key.len() {
         return Found::Nothing;
     }
+    if 8 <= key.len() {
+        let at = key.len() - 8;
+        let word = slice::get8(key, at);
+        return find_word(table, form, first, key, at, word);
+    }
     let mut padded = [0; KEY_LIMIT];
     slice::fill(&mut padded, key);
-    let a = slice::get8(&padded, 0);
-    let b = slice::get8(&padded, 8);
-    find_words(table, form, first, key, a, b)
+    let word = slice::get8(&padded, 0);
+    find_word(table, form, first, key, 0, word)
 }
 
-// The same for a key with its first two words.
-fn find_words(table: &[u8], form: Form, first: usize, key: &[u8], a: u64, b: u64) -> Found
+// The same for a key with its word at a place.
+fn find_word(table: &[u8], form: Form, first: usize, key: &[u8], at: usize, word: u64) -> Found
     requires { ⌜ Reads (formOf form) (now table) ⌝ }
     requires { ⌜ first ≤ length (slotsOf (formOf form) (now table)) ⌝ }
-    requires { ⌜ WordsOf (now key) a b ⌝ }
+    requires { ⌜ WordOf (now key) at word ⌝ }
     ensures { λ r. ⌜ slotOf r ≡ lowestFrom (holds (now (key .entry))) (slotsOf (formOf form) (now (table .entry))) first ⌝ }
 {
     let n = crate::count(table, form);
-    let mut i = next_like(table, form, first, a, b);
+    let mut i = next_like(table, form, first, at, word);
     while i < n {
         if record::has_key(crate::slot(table, form, i), key) {
             return Found::At(i);
         }
-        i = next_like(table, form, i + 1, a, b);
+        i = next_like(table, form, i + 1, at, word);
     }
     Found::Nothing
 }
 
-// The lowest slot from `first` on whose key begins with two words, or the number of slots. This loop has nothing else in it, so that it is short.
-fn next_like(table: &[u8], form: Form, first: usize, a: u64, b: u64) -> usize
+// The lowest slot from `first` on whose key has the word at a place, or the number of slots. This loop has nothing else in it, so that it is short.
+fn next_like(table: &[u8], form: Form, first: usize, at: usize, word: u64) -> usize
     requires { ⌜ Reads (formOf form) (now table) ⌝ }
     requires { ⌜ first ≤ length (slotsOf (formOf form) (now table)) ⌝ }
-    ensures { λ n. ⌜ (first ≤ n) × (n ≤ length (slotsOf (formOf form) (now (table .entry)))) × NoneBegins a b (formOf form) (now (table .entry)) first n ⌝ }
+    requires { ⌜ at + 8 ≤ keyLimit ⌝ }
+    ensures { λ n. ⌜ (first ≤ n) × (n ≤ length (slotsOf (formOf form) (now (table .entry)))) × NoneHas at word (formOf form) (now (table .entry)) first n ⌝ }
 {
     let n = crate::count(table, form);
     let mut i = first;
     while i < n {
-        if record::begins(crate::slot(table, form, i), a, b) {
+        if record::has_word(crate::slot(table, form, i), at, word) {
             return i;
         }
         i += 1;

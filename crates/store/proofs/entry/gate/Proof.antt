@@ -7,23 +7,23 @@ use borrow.Author.Needs.{needs}
 use borrow.Author.Tests.{not-true, not-false}
 use Rattle.model.specs.Table.{timeLimit, distinct}
 use Rattle.table.specs.Slots.{Reads, slotsOf}
-use Rattle.store.specs.Gated.{queryForm}
+use Rattle.record.specs.Forms.{formOf}
 use Rattle.store.proofs.Tests.{unread, equal-keys, late, short, malformed, passed}
 use Rattle.store.proofs.entry.gate.Statement.{statement}
 use Rattle.store.proofs.entry.gate.Tie as tie
 
 -- ---- what the tests passed say
 
-reads : (c : tie.Else1) → let s = c .before .before .before .before .before in Reads (queryForm (s .args .query)) (s .args .table .now)
+reads : (c : tie.Else1) → let s = c .before .before .before .before .before in Reads (formOf (s .args .form)) (s .args .table .now)
 reads c = sym (c .before .records-ok .ensures) ∙ not-false (c .before .records-ok .result) (c .if1 .left)
 
-keys : (c : tie.Else2) → let s = c .before .before .before .before .before .before .before in distinct (slotsOf (queryForm (s .args .query)) (s .args .table .now)) ≡ true
+keys : (c : tie.Else2) → let s = c .before .before .before .before .before .before .before in distinct (slotsOf (formOf (s .args .form)) (s .args .table .now)) ≡ true
 keys c = sym (c .before .keys-ok .ensures) ∙ not-false (c .before .keys-ok .result) (c .if2 .left)
 
-early : (c : tie.Else3) → c .before .before .before .before .before .before .before .before .args .query .time ≤ timeLimit
+early : (c : tie.Else3) → c .before .before .before .before .before .before .before .before .args .time ≤ timeLimit
 early c = omega arith
 
-room : (c : tie.Else4) → let s = c .before .before .before .before .before .before .before .before .before in queryForm (s .args .query) .replyRoom ≤ s .args .query .room
+room : (c : tie.Else4) → let s = c .before .before .before .before .before .before .before .before .before in formOf (s .args .form) .replyRoom ≤ s .args .room
 room c = omega arith
 
 returns-5 : tie.Need-returns-5

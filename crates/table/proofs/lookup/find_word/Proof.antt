@@ -1,4 +1,4 @@
--- `table::find_words` meets its contract. The loop's invariant: the lowest slot that holds the key is the lowest of those left.
+-- `table::find_word` meets its contract. The loop's invariant: the lowest slot that holds the key is the lowest of those left.
 use Prim.Native.Nat.{_+_, _-_}
 use mathlib.Core.Path.{_≡_, refl, sym, ap, subst, _∙_}
 use lib.ListN.{getD}
@@ -13,15 +13,15 @@ use Rattle.table.proofs.Search.{Searched, search-here, search-next, sea
 use Rattle.table.proofs.Parts.{slot-is, slot-readable, is-slot, none-holds}
 use native.Mathlib.Omega.{arith}
 use borrow.Author.Needs.{needs}
-use Rattle.table.proofs.lookup.find_words.Statement.{statement}
-use Rattle.table.proofs.lookup.find_words.Tie as tie
+use Rattle.table.proofs.lookup.find_word.Statement.{statement}
+use Rattle.table.proofs.lookup.find_word.Tie as tie
 
 abbrev Inv-loop : tie.InvT-loop
-Inv-loop table form first key a b n i₀ i =
+Inv-loop table form first key at word n i₀ i =
     Searched (holds key) (slotsOf (formOf form) table) (lowestFrom (holds key) (slotsOf (formOf form) table) first) n i
 
 abbrev μ-loop : tie.MeasureT-loop
-μ-loop table form first key a b n i₀ i = n - i
+μ-loop table form first key at word n i₀ i = n - i
 
 loop-holds : tie.Need-loop-holds Inv-loop μ-loop
 loop-holds c =
@@ -34,7 +34,7 @@ loop-holds c =
     let begun : Searched (holds k) (slotsOf f t) (lowestFrom (holds k) (slotsOf f t) (s .args .first)) (c .before .count .result) (s .args .first) =
     record { within = omega (arith, all, s .pre .1 .0); all = all; left = refl } in
     search-on (c .next-like .result) begun (found .0) (omega (arith, all, found .1))
-    (none-holds f t (s .pre .0) k (s .args .a) (s .args .b) (s .args .first) (c .next-like .result) (s .pre .1 .1) (found .1) (found .2))
+    (none-holds f t (s .pre .0) k (s .args .at) (s .args .word) (s .args .first) (c .next-like .result) (s .pre .1 .1) (found .1) (found .2))
 
 slot-requires : tie.Need-slot-requires Inv-loop μ-loop
 slot-requires c κs = let s = c .before .before .before .before .before .before in inside-table (formOf (s .args .form)) (s .args .table .now) (s .pre .0) (c .before .loop .i) (omega arith)
@@ -76,10 +76,10 @@ loop-again c =
     let inv = l .before .loop .inv in
     let found = c .next-like2 .ensures in
     search-on (c .next-like2 .result) (search-next inv (l .loop-test .taken) (sym (told (c .before .before)) ∙ c .before .if1 .left)) (found .0) (omega (arith, inv .all, found .1))
-    (none-holds f t (s .pre .0) (s .args .key .now) (s .args .a) (s .args .b) (i + 1) (c .next-like2 .result) (s .pre .1 .1) (found .1) (found .2))
+    (none-holds f t (s .pre .0) (s .args .key .now) (s .args .at) (s .args .word) (i + 1) (c .next-like2 .result) (s .pre .1 .1) (found .1) (found .2))
 
-pub find-words-spec : {M : Type 1} → statement M
-find-words-spec =
+pub find-word-spec : {M : Type 1} → statement M
+find-word-spec =
     tie.close
     (tie.spec
     Inv-loop μ-loop (λ c κs. search needs) (λ c κs. search needs) loop-holds slot-requires has-key-requires returns (λ c. search needs)
