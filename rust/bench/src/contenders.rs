@@ -1,4 +1,4 @@
-//! The library, the reference and a call that does nothing, all called alike.
+//! The library, the rival and a call that does nothing, all called alike.
 
 use std::hint::black_box;
 
@@ -6,7 +6,7 @@ use std::hint::black_box;
 pub type Call = fn(&mut [u8], u64, &[u8], &mut [u8]) -> u32;
 
 /// The order in which the contenders stand in every list.
-pub const CONTENDERS: [Call; 3] = [library, reference, nothing];
+pub const CONTENDERS: [Call; 3] = [library, rival, nothing];
 
 #[inline(never)]
 pub fn library(table: &mut [u8], time: u64, command: &[u8], reply: &mut [u8]) -> u32 {
@@ -14,8 +14,8 @@ pub fn library(table: &mut [u8], time: u64, command: &[u8], reply: &mut [u8]) ->
 }
 
 #[inline(never)]
-pub fn reference(table: &mut [u8], time: u64, command: &[u8], reply: &mut [u8]) -> u32 {
-    reference::call(table, time, command, reply).number
+pub fn rival(table: &mut [u8], time: u64, command: &[u8], reply: &mut [u8]) -> u32 {
+    rival::call(table, time, command, reply).0
 }
 
 /// What measuring costs: subtracted from the others.

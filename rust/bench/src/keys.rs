@@ -20,6 +20,7 @@ fn random(number: usize) -> String {
     (0..16).map(|_| letter()).collect()
 }
 
-fn long(number: usize) -> String {
-    format!("bridge-7/battery/{number:04}ab")
+/// The longest there are, 24 bytes.
+pub fn long(number: usize) -> String {
+    format!("bridge-7/battery/{number:04}-mv")
 }

@@ -1,7 +1,8 @@
-//! What the benchmark measures: the library and the reference on the same rows.
+//! What the benchmark measures: the library and the rival on the same rows.
 
 #![forbid(unsafe_code)]
 
+pub mod bars;
 pub mod contenders;
 pub mod keys;
 pub mod measure;

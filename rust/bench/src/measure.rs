@@ -1,7 +1,7 @@
 //! Timing: rounds in which the contenders take turns, so that whatever slows
 //! the machine slows all of them.
 
-use crate::contenders::{Call, CONTENDERS};
+use crate::contenders::{library, rival, Call, CONTENDERS};
 use crate::rows::{Row, TIME};
 use difftest::layout::{records, records_mut};
 use std::hint::black_box;
@@ -12,10 +12,10 @@ const ROUNDS: usize = 31;
 /// About how long one contender runs in a round, in nanoseconds.
 const TURN: f64 = 200_000.0;
 
-/// Nanoseconds per call, and how many times the reference's the library's are.
+/// Nanoseconds per call, and how many times the rival's the library's are.
 pub struct Figures {
     pub library: f64,
-    pub reference: f64,
+    pub rival: f64,
     pub ratio: f64,
 }
 
@@ -38,8 +38,8 @@ pub fn figures(row: &mut Row) -> Figures {
     let over = |figure: fn(&[f64; 3]) -> f64| median(rounds.iter().map(figure).collect());
     Figures {
         library: over(|[library, _, nothing]| library - nothing),
-        reference: over(|[_, reference, nothing]| reference - nothing),
-        ratio: over(|[library, reference, nothing]| (library - nothing) / (reference - nothing)),
+        rival: over(|[_, rival, nothing]| rival - nothing),
+        ratio: over(|[library, rival, nothing]| (library - nothing) / (rival - nothing)),
     }
 }
 
@@ -57,13 +57,17 @@ fn time(call: Call, row: &mut Row, whole: &[u8], passes: usize) -> f64 {
     start.elapsed().as_nanos() as f64 / (passes * row.commands.len()) as f64
 }
 
-/// Panics unless every call of the row gives the row's number in both stores.
+/// Panics unless every call of the row gives the row's number in both stores,
+/// and the same table and reply.
 pub fn check(row: &Row) {
-    for call in &CONTENDERS[..2] {
-        for (command, _) in &row.commands {
-            let number = call(&mut row.table.clone(), TIME, command, &mut [0; 128]);
+    for (command, _) in &row.commands {
+        let [library, rival] = [library, rival].map(|call| {
+            let (mut table, mut reply) = (row.table.clone(), [0; 128]);
+            let number = call(&mut table, TIME, command, &mut reply);
             assert_eq!(number, row.number, "{} with {} records", row.name, row.records);
-        }
+            (table, reply)
+        });
+        assert!(library == rival, "{} with {} records", row.name, row.records);
     }
 }
 

@@ -1,6 +1,7 @@
 //! The rows: for each a table and commands that all take the same path.
 
-use crate::keys::Key;
+use crate::keys::{long, Key};
+use difftest::collisions;
 use difftest::layout::{Fields, Record, RECORD};
 use difftest::resp::encode;
 
@@ -10,10 +11,14 @@ pub const TIME: u64 = 1_700_000_000_000;
 /// The numbers of records.
 pub const SIZES: [usize; 5] = [1, 16, 64, 200, 256];
 
-pub const NAMES: [&str; 12] = [
+pub const NAMES: [&str; 13] = [
     "EXGET hit", "EXGET miss", "EXSET live", "EXSET new", "EXCAS OK", "EXCAS stale", "EXINCRBY",
-    "EXAPPEND", "options", "malformed", "damaged", "equal keys",
+    "EXAPPEND", "options", "malformed", "damaged", "equal keys", "24-byte keys",
 ];
+
+/// A row that stands apart, with a bar of its own: EXGET in a full table of keys
+/// that meet in the library's filter.
+pub const COLLIDING: &str = "colliding";
 
 /// How many commands a row has, on slots all over the table.
 const COMMANDS: usize = 16;
@@ -28,13 +33,21 @@ pub struct Row {
     pub number: u32,
 }
 
-/// All rows with all sizes. Two equal keys need two records.
+/// All rows with all sizes, then the one that stands apart. Two equal keys need
+/// two records.
 pub fn all(key: Key) -> Vec<Row> {
     let sizes = |name| SIZES.into_iter().filter(move |size| name != "equal keys" || *size > 1);
-    NAMES.into_iter().flat_map(|name| sizes(name).map(move |size| row(name, size, key))).collect()
+    let key_of = |name| if name == "24-byte keys" { long } else { key };
+    let rows = |name| sizes(name).map(move |size| row(name, size, &key_of(name)));
+    NAMES.into_iter().flat_map(rows).chain([colliding()]).collect()
 }
 
-fn row(name: &'static str, records: usize, key: Key) -> Row {
+fn colliding() -> Row {
+    let keys = collisions::keys(256);
+    row(COLLIDING, keys.len(), &|number| keys[number].clone())
+}
+
+fn row(name: &'static str, records: usize, key: &dyn Fn(usize) -> String) -> Row {
     let mut table: Vec<u8> =
         (0..records).flat_map(|slot| record(&key(slot), &value(name, slot), slot)).collect();
     let last = RECORD * (records - 1);
@@ -72,17 +85,22 @@ fn record(key: &str, value: &str, slot: usize) -> Record {
 }
 
 /// The command at this place of a row's list, and the slot that it may change.
-fn command(name: &str, records: usize, key: Key, at: usize) -> (Vec<u8>, usize) {
+fn command(
+    name: &str,
+    records: usize,
+    key: &dyn Fn(usize) -> String,
+    at: usize,
+) -> (Vec<u8>, usize) {
     let slot = (at * 7 + 3) * records / COMMANDS % records;
     let there = &key(slot);
-    let elsewhere = &key(1000 + at);
+    let elsewhere = || key(1000 + at);
     let now = &version(slot).to_string();
     let before = &(version(slot) - 1).to_string();
     let text = "v=3.1;t=20;s=ok";
     let bytes = match name {
-        "EXGET miss" => encode(&["EXGET", elsewhere]),
+        "EXGET miss" => encode(&["EXGET", &elsewhere()]),
         "EXSET live" => encode(&["EXSET", there, text]),
-        "EXSET new" => return (encode(&["EXSET", elsewhere, text]), records - 1),
+        "EXSET new" => return (encode(&["EXSET", &elsewhere(), text]), records - 1),
         "EXCAS OK" => encode(&["EXCAS", there, text, now]),
         "EXCAS stale" => encode(&["EXCAS", there, text, before]),
         "EXINCRBY" => encode(&["EXINCRBY", there, "5"]),

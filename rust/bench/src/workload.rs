@@ -1,8 +1,8 @@
 //! A fixed workload for the script `bench/instructions`: each row on the
-//! library, then on the reference, with a call of `row_done` after each. It
-//! prints the rows in that order, with their numbers of calls.
+//! library, then on the rival, with a call of `row_done` after each. It prints
+//! the rows in that order, with their numbers of calls.
 
-use bench::contenders::{library, reference, Call};
+use bench::contenders::{library, rival, Call};
 use bench::keys::KINDS;
 use bench::rows::{self, Row, TIME};
 use difftest::layout::{records, records_mut};
@@ -11,8 +11,8 @@ use std::hint::black_box;
 fn main() {
     for mut row in rows::all(KINDS[0].1) {
         let whole = row.table.clone();
-        println!("{:12}\t{}\t{}", row.name, row.records, row.commands.len());
-        for call in [library as Call, reference] {
+        println!("{}\t{}\t{}", row.name, row.records, row.commands.len());
+        for call in [library as Call, rival] {
             run(call, &mut row, &whole);
             row_done();
         }

@@ -1,16 +1,26 @@
-//! The library and the reference on the same input: they must agree in every byte.
+//! A store and the reference on the same input: they must agree in every byte.
 
 use crate::hex::hex;
 use crate::Case;
 use reference::{Answer, Shown};
 
-/// A call of the library, in the reference's terms.
+/// A store held against the reference, in the reference's terms.
+pub struct Candidate {
+    pub name: &'static str,
+    pub call: fn(&mut [u8], u64, &[u8], &mut [u8]) -> Answer,
+    pub current_value: fn(&[u8], u64, &[u8]) -> Option<Shown>,
+}
+
+pub const LIBRARY: Candidate =
+    Candidate { name: "library", call: library, current_value: library_current_value };
+
+/// A call of the library.
 pub fn library(table: &mut [u8], time: u64, command: &[u8], reply: &mut [u8]) -> Answer {
     let answer = pietrunel::call(table, time, command, reply);
     Answer { number: answer.number(), len: answer.reply().len() }
 }
 
-/// Where the library's current value stands, in the reference's terms.
+/// Where the library's current value stands.
 fn library_current_value(table: &[u8], time: u64, command: &[u8]) -> Option<Shown> {
     let value = pietrunel::current_value(table, time, command)?;
     let start_in = |whole: &[u8]| {
@@ -41,25 +51,26 @@ impl Case {
     }
 
     /// The outcome in both stores, or how they differ and how to see it again.
-    pub fn compare(&self) -> Result<Outcome, String> {
+    pub fn compare(&self, candidate: &Candidate) -> Result<Outcome, String> {
         let outcome = self.run(reference::call);
-        match difference(&self.run(library), &outcome) {
+        match difference(candidate.name, &self.run(candidate.call), &outcome) {
             Some(difference) => Err(format!("{difference}\n{}", self.again())),
             None => Ok(outcome),
         }
     }
 
     /// Where the current value stands by both stores, or how they differ.
-    pub fn compare_current_value(&self) -> Result<Option<Shown>, String> {
+    pub fn compare_current_value(&self, candidate: &Candidate) -> Result<Option<Shown>, String> {
         let shown = reference::current_value(&self.table, self.time, &self.command);
-        let library = library_current_value(&self.table, self.time, &self.command);
-        if library == shown {
+        let other = (candidate.current_value)(&self.table, self.time, &self.command);
+        if other == shown {
             return Ok(shown);
         }
-        Err(format!("current value: library {library:?}, reference {shown:?}\n{}", self.again()))
+        let name = candidate.name;
+        Err(format!("current value: {name} {other:?}, reference {shown:?}\n{}", self.again()))
     }
 
-    /// The command line that runs this case alone.
+    /// The command line that runs this case alone, on library and reference.
     pub fn again(&self) -> String {
         format!(
             "run it again, in rust/: cargo run --release --offline --bin replay -- {} {} {} {}",
@@ -71,16 +82,16 @@ impl Case {
     }
 }
 
-/// How the library's outcome differs from the reference's, if it does.
-pub fn difference(library: &Outcome, reference: &Outcome) -> Option<String> {
-    if library.answer != reference.answer {
-        return Some(format!("library {:?}, reference {:?}", library.answer, reference.answer));
+/// How the outcome of the store with this name differs from the reference's, if
+/// it does.
+pub fn difference(name: &str, other: &Outcome, reference: &Outcome) -> Option<String> {
+    if other.answer != reference.answer {
+        return Some(format!("{name} {:?}, reference {:?}", other.answer, reference.answer));
     }
-    first_difference("table", &library.table, &reference.table)
-        .or_else(|| first_difference("reply", &library.reply, &reference.reply))
-}
-
-fn first_difference(name: &str, library: &[u8], reference: &[u8]) -> Option<String> {
-    let at = library.iter().zip(reference).position(|(a, b)| a != b)?;
-    Some(format!("{name} byte {at}: library {}, reference {}", library[at], reference[at]))
+    let first = |part, other: &[u8], reference: &[u8]| {
+        let at = other.iter().zip(reference).position(|(a, b)| a != b)?;
+        Some(format!("{part} byte {at}: {name} {}, reference {}", other[at], reference[at]))
+    };
+    first("table", &other.table, &reference.table)
+        .or_else(|| first("reply", &other.reply, &reference.reply))
 }

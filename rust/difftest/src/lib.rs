@@ -1,8 +1,8 @@
 //! Random cases and histories, on which the library must agree with the
-//! reference.
+//! reference; so must the rival of the benchmark.
 //!
 //! `case` makes one call's table, time, command and reply buffer. `compare`
-//! runs it on both stores. `history` makes whole lists of calls on one record
+//! runs it on two stores. `history` makes whole lists of calls on one record
 //! and checks their answers against a serial execution.
 
 #![forbid(unsafe_code)]
@@ -12,6 +12,7 @@ mod frames;
 mod tables;
 mod words;
 
+pub mod collisions;
 pub mod compare;
 pub mod expect;
 pub mod hex;

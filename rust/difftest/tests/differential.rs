@@ -1,6 +1,7 @@
 //! The library against the reference on random cases, which reach every
 //! number and every form of a reply. Both are also held to the plain rules.
 
+use difftest::compare::LIBRARY;
 use difftest::{case, expect, settings, Case, Rng};
 use std::collections::BTreeMap;
 
@@ -22,7 +23,7 @@ fn the_library_agrees_with_the_reference() {
     let mut forms = BTreeMap::new();
     for call in 0..calls {
         let case = case(&mut rng);
-        let outcome = case.compare().unwrap_or_else(|difference| {
+        let outcome = case.compare(&LIBRARY).unwrap_or_else(|difference| {
             panic!("seed {seed}, call {call}: {difference}");
         });
         numbers[outcome.answer.number as usize] += 1;
@@ -44,7 +45,8 @@ fn the_library_agrees_with_the_reference() {
 
 /// There is no reply buffer, so number 3 does not arise.
 fn check_current_value(mut case: Case) {
-    let shown = case.compare_current_value().unwrap_or_else(|difference| panic!("{difference}"));
+    let shown =
+        case.compare_current_value(&LIBRARY).unwrap_or_else(|difference| panic!("{difference}"));
     case.reply = vec![0; 128];
     let outcome = case.run(reference::call);
     expect::current_value(&case, &outcome, shown);

@@ -1,253 +1,226 @@
-//! What a command does to the table, and its reply.
+//! What a command does to the slots: an answer, with or without one slot stored
+//! anew, or a refusal 12 to 17.
 
-use crate::command::{Name, Request};
-use crate::number;
-use crate::options::{Condition, ExpiryRule, VersionRule};
-use crate::record::{self, Record};
-use crate::refusal::Refusal;
-use crate::reply::Writer;
-use crate::table::{self, Place};
-use crate::Shown;
+use crate::checked::{check, given, Checked};
+use crate::command::{
+    Action, Change, Command, End, Expire, Increment, Join, Presence, Set, Swap, Terms,
+};
+use crate::number::read_signed;
+use crate::resp::Reply;
+use crate::search::{lookup, slot_for, Lookup};
+use crate::table::{Record, Slot, HIGHEST_VERSION, VALUE_LIMIT};
 
-/// Why the version did not fit, as EXCAS tells it: no error reply.
-const STALE: &[u8] = b"ERR update version is stale";
-
-/// Runs the command on a good table. A refusal changes nothing and has
-/// written no reply.
-pub fn run(
-    request: &Request,
-    place: &Place,
-    table: &mut [u8],
-    reply: &mut Writer,
-) -> Result<(), Refusal> {
-    let record = place.slot().map(|slot| table::record_in_mut(table, slot));
-    match record {
-        Some(record) if place.live => run_on_live(request, record, reply),
-        record => run_on_absent(request, record, reply),
-    }
+/// A reply, or the new contents of a slot and a reply.
+pub enum Effect {
+    Answer(Reply),
+    Store(usize, Slot, Reply),
 }
 
-fn run_on_live(request: &Request, record: &mut Record, reply: &mut Writer) -> Result<(), Refusal> {
-    match request.name {
-        Name::ExGet => show(record, request.options.with_flags, reply),
-        Name::ExSetVer => {
-            record::set_version(record, request.version);
-            reply.integer(1);
+/// What a command does to the slots at a time.
+pub fn execute(time: u64, slots: &[Slot], command: &Command) -> Checked<Effect> {
+    let found = lookup(time, &command.key, slots);
+    let slot = slot_for(time, slots, found);
+    Place { key: &command.key, found, slot }.act(&command.action)
+}
+
+/// A key, what stands under it, and the slot that a write takes.
+struct Place<'a> {
+    key: &'a [u8],
+    found: Lookup<'a>,
+    slot: Option<usize>,
+}
+
+impl Place<'_> {
+    fn act(&self, action: &Action) -> Checked<Effect> {
+        match action {
+            Action::Exset(set) => self.exset(set),
+            Action::Exincrby(increment) => self.exincrby(increment),
+            Action::Exjoin(join) => self.exjoin(join),
+            Action::Excas(swap) => self.excas(swap),
+            Action::Exget { with_flags } => Ok(self.exget(*with_flags)),
+            Action::Exsetver { version } => Ok(self.exsetver(*version)),
+            Action::Excad { version } => Ok(self.excad(*version)),
+            Action::Exgae { expire } => Ok(self.exgae(*expire)),
+            Action::Del => Ok(self.del()),
         }
-        Name::ExCas => return compare_and_set(request, record, reply),
-        Name::ExCad => compare_and_delete(request, record, reply),
-        Name::ExGae => {
-            store_expiry(request, record);
-            show(record, true, reply);
+    }
+
+    fn exset(&self, set: &Set) -> Checked<Effect> {
+        if !self.allowed(set.terms.presence) {
+            return Ok(Effect::Answer(Reply::Nil));
         }
-        Name::Del => {
-            record::clear(record);
-            reply.integer(1);
+        check(12, self.agrees(set.terms.change))?;
+        let (slot, record) = self.put(&set.terms, Some(set.flags), set.value.clone())?;
+        let reply = if set.with_version { number(record.version) } else { Reply::Simple("OK") };
+        Ok(Effect::Store(slot, Some(record), reply))
+    }
+
+    fn exincrby(&self, increment: &Increment) -> Checked<Effect> {
+        if !self.allowed(increment.terms.presence) {
+            return Ok(Effect::Answer(Reply::Nil));
         }
-        Name::ExSet | Name::ExIncrBy | Name::ExAppend | Name::ExPrepend => {
-            if request.options.condition == Condition::IfAbsent {
-                reply.nil();
-            } else {
-                return change(request, record, reply);
+        check(12, self.agrees(increment.terms.change))?;
+        let sum = sum(increment, self.counter()?)?;
+        let (slot, record) = self.put(&increment.terms, None, sum.to_string().into_bytes())?;
+        let reply = match increment.with_version {
+            true => Reply::Array(vec![Reply::Integer(sum), number(record.version)]),
+            false => Reply::Integer(sum),
+        };
+        Ok(Effect::Store(slot, Some(record), reply))
+    }
+
+    /// EXAPPEND and EXPREPEND. An absent key has no text to join to.
+    fn exjoin(&self, join: &Join) -> Checked<Effect> {
+        if !self.allowed(join.terms.presence) {
+            return Ok(Effect::Answer(Reply::Nil));
+        }
+        check(12, self.agrees(join.terms.change))?;
+        let stored = self.found.live_record().map_or(&b""[..], |record| &record.value);
+        let value = match join.end {
+            End::Back => [stored, &join.value].concat(),
+            End::Front => [&join.value, stored].concat(),
+        };
+        let (slot, record) = self.put(&join.terms, None, value)?;
+        let reply = number(record.version);
+        Ok(Effect::Store(slot, Some(record), reply))
+    }
+
+    fn excas(&self, swap: &Swap) -> Checked<Effect> {
+        let Lookup::Live(_, old) = self.found else {
+            return Ok(Effect::Answer(Reply::Integer(-1)));
+        };
+        if swap.version != old.version {
+            let stale = Reply::Simple("ERR update version is stale");
+            let items = vec![stale, Reply::Bulk(old.value.clone()), number(old.version)];
+            return Ok(Effect::Answer(Reply::Array(items)));
+        }
+        let (presence, change) = (Presence::Always, Change::Raise);
+        let terms = Terms { presence, change, expire: swap.expire };
+        let (slot, record) = self.put(&terms, None, swap.value.clone())?;
+        let items = vec![Reply::Simple("OK"), Reply::Simple(""), number(record.version)];
+        Ok(Effect::Store(slot, Some(record), Reply::Array(items)))
+    }
+
+    fn exget(&self, with_flags: bool) -> Effect {
+        match self.found {
+            Lookup::Live(_, record) => Effect::Answer(get_reply(with_flags, record)),
+            _ => Effect::Answer(Reply::Nil),
+        }
+    }
+
+    fn exsetver(&self, version: u64) -> Effect {
+        match self.found {
+            Lookup::Live(slot, record) => {
+                Effect::Store(slot, Some(Record { version, ..record.clone() }), number(1))
             }
+            _ => Effect::Answer(number(0)),
         }
     }
-    Ok(())
-}
 
-/// `record` is the one that a write takes, if there is one.
-fn run_on_absent(
-    request: &Request,
-    record: Option<&mut Record>,
-    reply: &mut Writer,
-) -> Result<(), Refusal> {
-    match request.name {
-        Name::ExGet | Name::ExGae => reply.nil(),
-        Name::ExSetVer | Name::Del => reply.integer(0),
-        Name::ExCas | Name::ExCad => reply.integer(-1),
-        Name::ExSet | Name::ExIncrBy | Name::ExAppend | Name::ExPrepend => {
-            if request.options.condition == Condition::IfLive {
-                reply.nil();
-            } else {
-                return create(request, record, reply);
+    fn excad(&self, version: u64) -> Effect {
+        match self.found {
+            Lookup::Live(slot, record) if record.version == version => {
+                Effect::Store(slot, None, number(1))
             }
+            Lookup::Live(..) => Effect::Answer(number(0)),
+            _ => Effect::Answer(Reply::Integer(-1)),
         }
     }
-    Ok(())
+
+    fn exgae(&self, expire: Expire) -> Effect {
+        match self.found {
+            Lookup::Live(slot, record) => {
+                let new = Record { expiry: self.expiry_after(expire), ..record.clone() };
+                Effect::Store(slot, Some(new), get_reply(true, record))
+            }
+            _ => Effect::Answer(Reply::Nil),
+        }
+    }
+
+    fn del(&self) -> Effect {
+        match self.found {
+            Lookup::Live(slot, _) => Effect::Store(slot, None, number(1)),
+            _ => Effect::Answer(number(0)),
+        }
+    }
+
+    /// NX and XX.
+    fn allowed(&self, presence: Presence) -> bool {
+        match presence {
+            Presence::Always => true,
+            Presence::IfAbsent => self.found.live_record().is_none(),
+            Presence::IfLive => self.found.live_record().is_some(),
+        }
+    }
+
+    /// VER against a live record's version; an absent key has none to compare.
+    fn agrees(&self, change: Change) -> bool {
+        match (change, self.found) {
+            (Change::RaiseFrom(version), Lookup::Live(_, record)) => version == record.version,
+            _ => true,
+        }
+    }
+
+    /// The number that EXINCRBY counts from: an absent key's is 0.
+    fn counter(&self) -> Checked<i64> {
+        match self.found {
+            Lookup::Live(_, record) => given(13, read_signed(&record.value)),
+            _ => Ok(0),
+        }
+    }
+
+    /// Tests 15 to 17 of a new value, and the record with all its fields at the
+    /// slot that it takes. Flags are kept where none are given.
+    fn put(&self, terms: &Terms, flags: Option<u32>, value: Vec<u8>) -> Checked<(usize, Record)> {
+        let version = self.version_after(terms.change)?;
+        check(16, value.len() <= VALUE_LIMIT)?;
+        let slot = given(17, self.slot)?;
+        let kept = self.found.live_record().map_or(0, |record| record.flags);
+        let (flags, expiry) = (flags.unwrap_or(kept), self.expiry_after(terms.expire));
+        Ok((slot, Record { key: self.key.to_vec(), value, flags, version, expiry }))
+    }
+
+    /// ABS stores its version; otherwise an absent key starts at 1 and a live
+    /// one rises.
+    fn version_after(&self, change: Change) -> Checked<u64> {
+        match (change, self.found) {
+            (Change::Set(version), _) => Ok(version),
+            (_, Lookup::Live(_, record)) => {
+                check(15, record.version < HIGHEST_VERSION)?;
+                Ok(record.version + 1)
+            }
+            _ => Ok(1),
+        }
+    }
+
+    fn expiry_after(&self, expire: Expire) -> u64 {
+        match expire {
+            Expire::Clear => 0,
+            Expire::Keep => self.found.live_record().map_or(0, |record| record.expiry),
+            Expire::At(expiry) => expiry,
+        }
+    }
 }
 
-/// The array of value and version, perhaps with flags.
-fn show(record: &Record, with_flags: bool, reply: &mut Writer) {
-    reply.array(if with_flags { 3 } else { 2 });
-    reply.bulk(record::value(record));
-    reply.integer(record::version(record) as i64);
+/// The sum is tested against 64 bits, MIN and MAX; after that NONEGATIVE makes
+/// 0 of one below 0.
+fn sum(increment: &Increment, counter: i64) -> Checked<i64> {
+    let sum = given(14, counter.checked_add(increment.by))?;
+    check(14, increment.min.is_none_or(|min| sum >= min))?;
+    check(14, increment.max.is_none_or(|max| sum <= max))?;
+    Ok(if increment.non_negative && sum < 0 { 0 } else { sum })
+}
+
+/// Value and version, and perhaps flags.
+fn get_reply(with_flags: bool, record: &Record) -> Reply {
+    let mut items = vec![Reply::Bulk(record.value.clone()), number(record.version)];
     if with_flags {
-        reply.integer(record::flags(record).into());
+        items.push(number(record.flags.into()));
     }
+    Reply::Array(items)
 }
 
-fn compare_and_set(
-    request: &Request,
-    record: &mut Record,
-    reply: &mut Writer,
-) -> Result<(), Refusal> {
-    let current = record::version(record);
-    if request.version != current {
-        reply.array(3);
-        reply.simple(STALE);
-        reply.bulk(record::value(record));
-        reply.integer(current as i64);
-        return Ok(());
-    }
-    let version = raised(current)?;
-    record::set_value(record, request.value);
-    record::set_version(record, version);
-    if request.options.expiry_rule == ExpiryRule::NotGiven {
-        record::set_expiry(record, 0);
-    } else {
-        store_expiry(request, record);
-    }
-    reply.array(3);
-    reply.simple(b"OK");
-    reply.simple(b"");
-    reply.integer(version as i64);
-    Ok(())
-}
-
-fn compare_and_delete(request: &Request, record: &mut Record, reply: &mut Writer) {
-    let equal = request.version == record::version(record);
-    if equal {
-        record::clear(record);
-    }
-    reply.integer(equal.into());
-}
-
-/// EXSET, EXINCRBY, EXAPPEND or EXPREPEND on a live key. All tests come
-/// before the first write.
-fn change(request: &Request, record: &mut Record, reply: &mut Writer) -> Result<(), Refusal> {
-    let current = record::version(record);
-    if matches!(request.options.version_rule, VersionRule::RaiseIfEqual(v) if v != current) {
-        return Err(Refusal::StaleVersion);
-    }
-    let sum = match request.name {
-        Name::ExIncrBy => {
-            let stored = number::signed(record::value(record)).ok_or(Refusal::StoredNotANumber)?;
-            add(request, stored)?
-        }
-        _ => 0,
-    };
-    let version = match request.options.version_rule {
-        VersionRule::Store(version) => version,
-        _ => raised(current)?,
-    };
-    let joins = matches!(request.name, Name::ExAppend | Name::ExPrepend);
-    if joins && record::value(record).len() + request.value.len() > record::MAX_VALUE {
-        return Err(Refusal::JoinedTooLong);
-    }
-
-    match request.name {
-        Name::ExAppend => record::append(record, request.value),
-        Name::ExPrepend => record::prepend(record, request.value),
-        Name::ExIncrBy => record::set_number(record, sum),
-        _ => {
-            record::set_value(record, request.value);
-            record::set_flags(record, request.options.flags);
-            record::set_expiry(record, 0);
-        }
-    }
-    record::set_version(record, version);
-    store_expiry(request, record);
-    reply_to_write(request, sum, version, reply);
-    Ok(())
-}
-
-/// The same four on an absent key. An append to nothing is the value itself.
-fn create(
-    request: &Request,
-    record: Option<&mut Record>,
-    reply: &mut Writer,
-) -> Result<(), Refusal> {
-    let sum = match request.name {
-        Name::ExIncrBy => add(request, 0)?,
-        _ => 0,
-    };
-    let record = record.ok_or(Refusal::TableFull)?;
-    let version = match request.options.version_rule {
-        VersionRule::Store(version) => version,
-        _ => 1,
-    };
-    record::start(record, &request.key);
-    match request.name {
-        Name::ExIncrBy => record::set_number(record, sum),
-        _ => record::set_value(record, request.value),
-    }
-    // Only EXSET has flags to give; those of the others are 0.
-    record::set_flags(record, request.options.flags);
-    record::set_version(record, version);
-    store_expiry(request, record);
-    reply_to_write(request, sum, version, reply);
-    Ok(())
-}
-
-fn reply_to_write(request: &Request, sum: i64, version: u64, reply: &mut Writer) {
-    let version = version as i64;
-    match (request.name, request.options.with_version) {
-        (Name::ExSet, false) => reply.simple(b"OK"),
-        (Name::ExIncrBy, false) => reply.integer(sum),
-        (Name::ExIncrBy, true) => {
-            reply.array(2);
-            reply.integer(sum);
-            reply.integer(version);
-        }
-        _ => reply.integer(version),
-    }
-}
-
-/// The sum, within its bounds; only then is a negative one made 0.
-fn add(request: &Request, stored: i64) -> Result<i64, Refusal> {
-    let sum = stored.checked_add(request.increment).ok_or(Refusal::SumOutOfRange)?;
-    if sum < request.options.min || sum > request.options.max {
-        return Err(Refusal::SumOutOfRange);
-    }
-    Ok(if request.options.no_negative { sum.max(0) } else { sum })
-}
-
-fn raised(version: u64) -> Result<u64, Refusal> {
-    if version == record::MAX_VERSION {
-        return Err(Refusal::VersionAtTop);
-    }
-    Ok(version + 1)
-}
-
-/// Stores the expiry that a time word gave; without one it stays.
-fn store_expiry(request: &Request, record: &mut Record) {
-    if let ExpiryRule::Store(expiry) = request.options.expiry_rule {
-        record::set_expiry(record, expiry);
-    }
-}
-
-/// Whether the command is one whose value `current_value` shows.
-pub fn shows_value(request: &Request) -> bool {
-    matches!(request.name, Name::ExGet | Name::ExCas)
-}
-
-/// The value after an EXGET or EXCAS: the command's where the EXCAS succeeds,
-/// else the record's.
-pub fn current_value(request: &Request, place: &Place, table: &[u8]) -> Option<Shown> {
-    let slot = place.key_slot.filter(|_| place.live)?;
-    let record = table::record_in(table, slot);
-    let current = record::version(record);
-    if request.name == Name::ExCas && request.version == current {
-        raised(current).ok()?;
-        return Some(Shown {
-            in_command: true,
-            start: request.value_start,
-            len: request.value.len(),
-        });
-    }
-    Some(Shown {
-        in_command: false,
-        start: slot * record::RECORD + record::VALUE_AT,
-        len: record::value(record).len(),
-    })
+/// Versions and flags as integers.
+fn number(number: u64) -> Reply {
+    Reply::Integer(number as i64)
 }

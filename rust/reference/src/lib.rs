@@ -1,89 +1,83 @@
-//! A key-value store over a borrowed table of fixed records.
+//! The store of document 01, written to be read and not to be fast: the oracle
+//! that the library is tried against.
 //!
-//! One call takes a table, a time in milliseconds, one RESP2 command and a
-//! reply buffer. It gives back a status number and the reply's length, and
-//! changes at most one record of the table.
+//! A call decodes the table into slots and the command into words, parses the
+//! words, executes the command and encodes the reply and the changed slot. The
+//! modules, and most functions, have the names of the model's
+//! (`crates/model/specs`).
 
 #![forbid(unsafe_code)]
 
-mod bytes;
+mod checked;
 mod command;
+mod current_value;
 mod execute;
-mod key;
-mod keyword;
+mod gate;
 mod number;
 mod options;
-mod record;
-mod refusal;
-mod reply;
+mod parse;
 mod resp;
+mod search;
 mod table;
 
-use refusal::Refusal;
+pub use current_value::{current_value, Shown};
 
-/// What a call gives back: the status number, and how many bytes of the reply
-/// buffer are the reply.
+use execute::{execute, Effect};
+use gate::gate;
+use parse::parse;
+use resp::{reply_bytes, Reply};
+use table::{slot_bytes, RECORD};
+
+/// What a call gives back: document 01's number, and how many bytes of the
+/// reply buffer are the reply.
 #[derive(Clone, Copy, Debug, PartialEq, Eq)]
 pub struct Answer {
     pub number: u32,
     pub len: usize,
 }
 
-/// Where a current value stands: in the command if `in_command`, else in the
-/// table, from byte `start` on, `len` bytes long.
-#[derive(Clone, Copy, Debug, PartialEq, Eq)]
-pub struct Shown {
-    pub in_command: bool,
-    pub start: usize,
-    pub len: usize,
-}
+/// The texts of the error replies, the first being number 5's.
+const MESSAGES: [&str; 13] = [
+    "unknown command",
+    "wrong number of arguments",
+    "string exceeds maximum allowed size",
+    "syntax error",
+    "value is not an integer or out of range",
+    "invalid expire time",
+    "min or max is specified, but not valid",
+    "update version is stale",
+    "stored value is not an integer",
+    "increment or decrement would overflow",
+    "version would overflow",
+    "string exceeds maximum allowed size",
+    "table is full",
+];
 
-/// Runs one command.
+/// Runs one command. The numbers 1 to 4 leave table and reply buffer untouched,
+/// 5 to 17 write an error reply.
 pub fn call(table: &mut [u8], time: u64, command: &[u8], reply: &mut [u8]) -> Answer {
-    // The command is read first, so that one pass over the table can both
-    // check it and find the key. The order of the refusals is kept below.
-    let request = command::read(command, time);
-    let key = request.as_ref().map_or(&key::Key::NONE, |request| &request.key);
-
-    let Some(place) = table::scan(table, time, key) else {
-        return silent(Refusal::DamagedTable);
+    let inputs = match gate(table, time, reply.len(), command) {
+        Ok(inputs) => inputs,
+        Err(number) => return Answer { number, len: 0 },
     };
-    if time > table::MAX_TIME {
-        return silent(Refusal::TimeOutOfRange);
-    }
-    let Some(buffer) = reply.first_chunk_mut::<{ reply::REPLY_ROOM }>() else {
-        return silent(Refusal::ShortReplyBuffer);
-    };
-    let mut out = reply::Writer::new(buffer);
-    let done = match &request {
-        Ok(request) => execute::run(request, &place, table, &mut out),
-        Err(Refusal::MalformedCommand) => return silent(Refusal::MalformedCommand),
-        Err(refusal) => Err(*refusal),
-    };
-    match done {
-        Ok(()) => Answer { number: 0, len: out.len() },
-        Err(refusal) => {
-            out.error(refusal.text());
-            Answer { number: refusal.number(), len: out.len() }
+    let effect =
+        parse(time, &inputs.words).and_then(|command| execute(time, &inputs.slots, &command));
+    match effect {
+        Ok(Effect::Answer(answer)) => write_reply(0, &answer, reply),
+        Ok(Effect::Store(at, slot, answer)) => {
+            table[at * RECORD..][..RECORD].copy_from_slice(&slot_bytes(&slot));
+            write_reply(0, &answer, reply)
+        }
+        Err(number) => {
+            let message = MESSAGES[number as usize - 5];
+            write_reply(number, &Reply::Error(format!("ERR {message}")), reply)
         }
     }
 }
 
-/// The value that stands at the key after an EXGET or EXCAS, or None if the
-/// command is another one, is refused, or its key is not live.
-pub fn current_value(table: &[u8], time: u64, command: &[u8]) -> Option<Shown> {
-    let request = command::read(command, time).ok()?;
-    if !execute::shows_value(&request) {
-        return None;
-    }
-    let place = table::scan(table, time, &request.key)?;
-    if time > table::MAX_TIME {
-        return None;
-    }
-    execute::current_value(&request, &place, table)
-}
-
-/// A refusal that writes no reply.
-fn silent(refusal: Refusal) -> Answer {
-    Answer { number: refusal.number(), len: 0 }
+/// Writes the reply from the buffer's start; bytes past it keep what they held.
+fn write_reply(number: u32, answer: &Reply, reply: &mut [u8]) -> Answer {
+    let bytes = reply_bytes(answer);
+    reply[..bytes.len()].copy_from_slice(&bytes);
+    Answer { number, len: bytes.len() }
 }

@@ -1,215 +1,154 @@
-//! The options of a command: collected word by word, then read.
+//! The options of a command: which are given (8), their numbers (9), the expiry
+//! (10), MIN and MAX (11).
 
-use crate::keyword::option_of;
-use crate::number;
-use crate::record::MAX_EXPIRY;
-use crate::refusal::Refusal;
-use crate::resp::Words;
-use bits::*;
+use crate::checked::{check, given, Checked};
+use crate::command::{look, Change, Expire, Kind, Name, Opt, Presence, Terms, OPTIONS};
+use crate::number::{read_flags, read_signed, read_version};
+use crate::table::TIME_LIMIT;
 
-/// The options, a bit each.
-pub mod bits {
-    pub const EX: u16 = 1;
-    pub const PX: u16 = 1 << 1;
-    pub const EXAT: u16 = 1 << 2;
-    pub const PXAT: u16 = 1 << 3;
-    pub const KEEPTTL: u16 = 1 << 4;
-    pub const NX: u16 = 1 << 5;
-    pub const XX: u16 = 1 << 6;
-    pub const VER: u16 = 1 << 7;
-    pub const ABS: u16 = 1 << 8;
-    pub const FLAGS: u16 = 1 << 9;
-    pub const MIN: u16 = 1 << 10;
-    pub const MAX: u16 = 1 << 11;
-    pub const NONEGATIVE: u16 = 1 << 12;
-    pub const WITHVERSION: u16 = 1 << 13;
-    pub const WITHFLAGS: u16 = 1 << 14;
-
-    pub const TIME_WORDS: u16 = EX | PX | EXAT | PXAT;
-    pub const NX_XX: u16 = NX | XX;
-    pub const VER_ABS: u16 = VER | ABS;
-
-    /// The options that take a number.
-    pub const NUMBERED: u16 = TIME_WORDS | VER_ABS | FLAGS | MIN | MAX;
+/// An option and the word of its number, empty where no number follows it.
+pub struct Given<'a> {
+    opt: Opt,
+    number: &'a [u8],
 }
 
-/// Which state of the key the command is meant for.
-#[derive(Clone, Copy, Debug, PartialEq, Eq)]
-pub enum Condition {
-    Always,
-    IfAbsent,
-    IfLive,
-}
-
-/// How a write settles the version.
-#[derive(Clone, Copy, Debug, PartialEq, Eq)]
-pub enum VersionRule {
-    Raise,
-    RaiseIfEqual(u64),
-    Store(u64),
-}
-
-/// How a write settles the expiry.
-#[derive(Clone, Copy, Debug, PartialEq, Eq)]
-pub enum ExpiryRule {
-    NotGiven,
-    Keep,
-    Store(u64),
-}
-
-/// What the options say. One that is not given leaves the usual.
-#[derive(Debug)]
-pub struct Options {
-    pub condition: Condition,
-    pub version_rule: VersionRule,
-    pub expiry_rule: ExpiryRule,
+/// What the options say.
+pub struct Said {
+    pub terms: Terms,
     pub flags: u32,
-    pub min: i64,
-    pub max: i64,
-    pub no_negative: bool,
+    pub min: Option<i64>,
+    pub max: Option<i64>,
+    pub non_negative: bool,
     pub with_version: bool,
     pub with_flags: bool,
 }
 
-/// The options given, and the number words of those that have one.
-pub struct Given<'a> {
-    bits: u16,
-    time: &'a [u8],
-    version: &'a [u8],
-    flags: &'a [u8],
-    min: &'a [u8],
-    max: &'a [u8],
+/// The option given of a group.
+fn pick<'g>(group: Kind, options: &'g [Given<'g>]) -> Option<&'g Given<'g>> {
+    options.iter().find(|option| option.opt.group() == group)
 }
 
-impl<'a> Given<'a> {
-    pub fn none() -> Given<'a> {
-        Given { bits: 0, time: b"", version: b"", flags: b"", min: b"", max: b"" }
-    }
+fn has(group: Kind, options: &[Given]) -> bool {
+    pick(group, options).is_some()
+}
 
-    /// Whether any of these options is given.
-    pub fn has(&self, options: u16) -> bool {
-        self.bits & options != 0
+/// Test 8: the options that the words after the fixed ones give. EXGAE needs a
+/// time word.
+pub fn options_in<'a>(name: Name, words: &[&'a [u8]]) -> Option<Vec<Given<'a>>> {
+    let options = read_options(name, words)?;
+    if name == Name::Exgae && !has(Kind::TimeWord, &options) {
+        return None;
     }
+    Some(options)
+}
 
-    /// Takes the words from this place on, of the options that are allowed.
-    /// Number words are only kept: a wrong option further on is refused before
-    /// a wrong number.
-    pub fn collect(
-        &mut self,
-        words: &Words<'a>,
-        first: usize,
-        allowed: u16,
-    ) -> Result<(), Refusal> {
-        let mut at = first;
-        while at < words.count() {
-            let option = option_of(words.word(at)).unwrap_or(0) & allowed;
-            if option == 0 || self.has(rivals(option)) {
-                return Err(Refusal::Syntax);
-            }
-            self.bits |= option;
-            at += 1;
-            if option & NUMBERED != 0 {
-                if at == words.count() {
-                    return Err(Refusal::Syntax);
-                }
-                self.keep_number(option, words.word(at));
-                at += 1;
-            }
+/// The options word by word. The word after one that a number follows is taken
+/// as its number, also if it spells an option.
+fn read_options<'a>(name: Name, words: &[&'a [u8]]) -> Option<Vec<Given<'a>>> {
+    let mut options = Vec::new();
+    let mut words = words.iter();
+    while let Some(word) = words.next() {
+        let opt = look(word, &OPTIONS)?;
+        if !name.kinds().contains(&opt.kind()) || has(opt.group(), &options) {
+            return None;
         }
-        Ok(())
+        let number: &[u8] = if opt.is_numbered() { words.next()? } else { b"" };
+        options.push(Given { opt, number });
     }
+    Some(options)
+}
 
-    fn keep_number(&mut self, option: u16, word: &'a [u8]) {
-        match option {
-            VER | ABS => self.version = word,
-            FLAGS => self.flags = word,
-            MIN => self.min = word,
-            MAX => self.max = word,
-            _ => self.time = word,
-        }
-    }
+/// Tests 9 to 11 of the options.
+pub fn said_in(name: Name, time: u64, options: &[Given]) -> Checked<Said> {
+    let lifetime = lifetime_in(name, pick(Kind::TimeWord, options))?;
+    let change = change_in(pick(Kind::VerOrAbs, options))?;
+    let flags = number_in(pick(Kind::Flags, options), read_flags)?.unwrap_or(0);
+    let min = number_in(pick(Kind::Min, options), read_signed)?;
+    let max = number_in(pick(Kind::Max, options), read_signed)?;
+    let expire = expire_in(lifetime, time)?;
+    check(11, ordered(min, max))?;
+    Ok(Said {
+        terms: Terms { presence: presence_in(pick(Kind::NxOrXx, options)), change, expire },
+        flags,
+        min,
+        max,
+        non_negative: has(Kind::NonNegative, options),
+        with_version: has(Kind::WithVersion, options),
+        with_flags: has(Kind::WithFlags, options),
+    })
+}
 
-    /// Reads every number word before any number is tested further.
-    pub fn read(&self, time: u64) -> Result<Options, Refusal> {
-        let version = self.number(VER_ABS, self.version, number::version)?;
-        let flags = self.number(FLAGS, self.flags, number::flags)?.unwrap_or(0);
-        let min = self.number(MIN, self.min, number::signed)?.unwrap_or(i64::MIN);
-        let max = self.number(MAX, self.max, number::signed)?.unwrap_or(i64::MAX);
-        let amount = self.number(TIME_WORDS, self.time, number::signed)?;
-        let expiry_rule = match amount {
-            Some(amount) => {
-                ExpiryRule::Store(expiry(self.bits, amount, time).ok_or(Refusal::ExpireTime)?)
-            }
-            None if self.has(KEEPTTL) => ExpiryRule::Keep,
-            None => ExpiryRule::NotGiven,
-        };
-        if min > max {
-            return Err(Refusal::MinAboveMax);
-        }
-        Ok(Options {
-            condition: self.condition(),
-            version_rule: self.version_rule(version),
-            expiry_rule,
-            flags,
-            min,
-            max,
-            no_negative: self.has(NONEGATIVE),
-            with_version: self.has(WITHVERSION),
-            with_flags: self.has(WITHFLAGS),
-        })
-    }
-
-    /// The number of these options, if one of them is given.
-    fn number<T>(
-        &self,
-        options: u16,
-        word: &[u8],
-        read: impl Fn(&[u8]) -> Option<T>,
-    ) -> Result<Option<T>, Refusal> {
-        if self.has(options) {
-            read(word).map(Some).ok_or(Refusal::NotANumber)
-        } else {
-            Ok(None)
-        }
-    }
-
-    fn version_rule(&self, version: Option<u64>) -> VersionRule {
-        match version {
-            None => VersionRule::Raise,
-            Some(version) if self.has(VER) => VersionRule::RaiseIfEqual(version),
-            Some(version) => VersionRule::Store(version),
-        }
-    }
-
-    fn condition(&self) -> Condition {
-        if self.has(NX) {
-            Condition::IfAbsent
-        } else if self.has(XX) {
-            Condition::IfLive
-        } else {
-            Condition::Always
-        }
+/// Test 9: the number of an option, if it is given.
+fn number_in<T>(option: Option<&Given>, read: fn(&[u8]) -> Option<T>) -> Checked<Option<T>> {
+    match option {
+        Some(option) => Ok(Some(given(9, read(option.number))?)),
+        None => Ok(None),
     }
 }
 
-/// The options that may not stand beside this one, itself among them.
-fn rivals(option: u16) -> u16 {
-    for group in [TIME_WORDS | KEEPTTL, NX_XX, VER_ABS] {
-        if option & group != 0 {
-            return group;
-        }
-    }
-    option
+/// VER or ABS.
+fn change_in(option: Option<&Given>) -> Checked<Change> {
+    let version = number_in(option, read_version)?;
+    Ok(match (option.map(|option| option.opt), version) {
+        (Some(Opt::Ver), Some(version)) => Change::RaiseFrom(version),
+        (_, Some(version)) => Change::Set(version),
+        (_, None) => Change::Raise,
+    })
 }
 
-/// The expiry that the given time word and its number make, if it is within
-/// its range. Nothing wraps: seconds are multiplied with a check.
-fn expiry(given: u16, amount: i64, time: u64) -> Option<u64> {
-    let amount = u64::try_from(amount).ok().filter(|&n| n >= 1)?;
-    let unit = if given & (EX | EXAT) != 0 { 1000 } else { 1 };
-    let from = if given & (EX | PX) != 0 { time } else { 0 };
-    let expiry = amount.checked_mul(unit)?.checked_add(from)?;
-    (expiry <= MAX_EXPIRY).then_some(expiry)
+/// What is said of the expiry: that it is cleared or kept, or a time word with
+/// its number.
+enum Lifetime {
+    Cleared,
+    Kept,
+    Until(Opt, i64),
+}
+
+/// The time word or KEEPTTL; without either it depends on the command.
+fn lifetime_in(name: Name, option: Option<&Given>) -> Checked<Lifetime> {
+    match option {
+        None if name.keeps_expiry() => Ok(Lifetime::Kept),
+        None => Ok(Lifetime::Cleared),
+        Some(option) if option.opt == Opt::KeepTtl => Ok(Lifetime::Kept),
+        Some(option) => Ok(Lifetime::Until(option.opt, given(9, read_signed(option.number))?)),
+    }
+}
+
+/// Test 10, where a time word is given.
+fn expire_in(lifetime: Lifetime, time: u64) -> Checked<Expire> {
+    match lifetime {
+        Lifetime::Cleared => Ok(Expire::Clear),
+        Lifetime::Kept => Ok(Expire::Keep),
+        Lifetime::Until(word, number) => Ok(Expire::At(expiry(word, number, time)?)),
+    }
+}
+
+/// A time word's number is at least 1, and the expiry at most 2^62. It is
+/// computed in 128 bits, where nothing wraps.
+fn expiry(word: Opt, number: i64, time: u64) -> Checked<u64> {
+    check(10, number >= 1)?;
+    let unit = if matches!(word, Opt::Ex | Opt::ExAt) { 1000 } else { 1 };
+    let from = if matches!(word, Opt::Ex | Opt::Px) { time } else { 0 };
+    let expiry = u128::from(from) + unit * number as u128;
+    check(10, expiry <= u128::from(TIME_LIMIT))?;
+    Ok(expiry as u64)
+}
+
+/// Test 11: MIN is not above MAX.
+fn ordered(min: Option<i64>, max: Option<i64>) -> bool {
+    match (min, max) {
+        (Some(min), Some(max)) => min <= max,
+        _ => true,
+    }
+}
+
+/// NX or XX.
+fn presence_in(option: Option<&Given>) -> Presence {
+    match option.map(|option| option.opt) {
+        Some(Opt::Nx) => Presence::IfAbsent,
+        Some(_) => Presence::IfLive,
+        None => Presence::Always,
+    }
 }
 
 #[cfg(test)]
@@ -218,19 +157,43 @@ mod tests {
 
     #[test]
     fn expiries_stay_in_range_and_never_wrap() {
-        let top = 1u64 << 62;
-        assert_eq!(expiry(PXAT, top as i64, 0), Some(top));
-        assert_eq!(expiry(PXAT, top as i64 + 1, 0), None);
-        assert_eq!(expiry(PX, 1, top - 1), Some(top));
-        assert_eq!(expiry(PX, 1, top), None);
-        assert_eq!(expiry(EXAT, (top / 1000) as i64, 0), Some(top / 1000 * 1000));
-        assert_eq!(expiry(EXAT, (top / 1000) as i64 + 1, 0), None);
+        let top = TIME_LIMIT;
+        assert_eq!(expiry(Opt::PxAt, top as i64, 0), Ok(top));
+        assert_eq!(expiry(Opt::PxAt, top as i64 + 1, 0), Err(10));
+        assert_eq!(expiry(Opt::Px, 1, top - 1), Ok(top));
+        assert_eq!(expiry(Opt::Px, 1, top), Err(10));
+        assert_eq!(expiry(Opt::ExAt, (top / 1000) as i64, 0), Ok(top / 1000 * 1000));
+        assert_eq!(expiry(Opt::ExAt, (top / 1000) as i64 + 1, 0), Err(10));
         // 2^64 / 1000, rounded up: wrapped, it would be a small expiry.
-        assert_eq!(expiry(EXAT, 18_446_744_073_709_552, 0), None);
-        assert_eq!(expiry(EX, i64::MAX, top), None);
-        assert_eq!(expiry(PX, i64::MAX, u64::MAX), None);
-        assert_eq!(expiry(EX, 0, 5), None);
-        assert_eq!(expiry(EX, -5, 5000), None);
-        assert_eq!(expiry(EX, 5, 1000), Some(6000));
+        assert_eq!(expiry(Opt::ExAt, 18_446_744_073_709_552, 0), Err(10));
+        assert_eq!(expiry(Opt::Ex, i64::MAX, top), Err(10));
+        assert_eq!(expiry(Opt::Ex, 0, 5), Err(10));
+        assert_eq!(expiry(Opt::Ex, -5, 5000), Err(10));
+        assert_eq!(expiry(Opt::Ex, 5, 1000), Ok(6000));
+    }
+
+    fn read(name: Name, words: &[&str]) -> Option<Vec<Opt>> {
+        let words: Vec<&[u8]> = words.iter().map(|word| word.as_bytes()).collect();
+        Some(options_in(name, &words)?.iter().map(|option| option.opt).collect())
+    }
+
+    #[test]
+    fn each_command_takes_its_own_options_once() {
+        let both = vec![Opt::Ex, Opt::Nx];
+        assert_eq!(read(Name::Exset, &["ex", "5", "NX"]), Some(both));
+        assert_eq!(read(Name::Excas, &["KEEPTTL"]), Some(vec![Opt::KeepTtl]));
+        for words in [&["NX", "NX"][..], &["NX", "XX"], &["VER", "1", "ABS", "1"], &["EX"]] {
+            assert_eq!(read(Name::Exset, words), None, "{words:?}");
+        }
+        assert_eq!(read(Name::Exset, &["KEEPTTL"]), None);
+        assert_eq!(read(Name::Exset, &["MIN", "1"]), None);
+        assert_eq!(read(Name::Excas, &["KEEPTTL", "PX", "1"]), None);
+        assert_eq!(read(Name::Exgae, &[]), None);
+    }
+
+    #[test]
+    fn the_word_after_a_numbered_option_is_its_number() {
+        assert_eq!(read(Name::Exset, &["EX", "NX", "NX"]), Some(vec![Opt::Ex, Opt::Nx]));
+        assert_eq!(read(Name::Exset, &["EX", "EX", "5"]), None);
     }
 }

@@ -1,105 +1,95 @@
-//! Commands in RESP2, taken apart into words.
+//! RESP2: a command as an array of bulk strings, and the replies.
+
+use crate::number::read_version;
 
 /// The longest command.
-const MAX_COMMAND: usize = 512;
+const COMMAND_LIMIT: usize = 512;
 
-/// The most words in a command.
-const MAX_WORDS: usize = 16;
+/// The most words of a command.
+const WORD_LIMIT: usize = 16;
 
-/// The words of a command: where each starts and ends.
-pub struct Words<'a> {
-    command: &'a [u8],
-    ends: [(u16, u16); MAX_WORDS],
-    count: usize,
+/// The words of a command: 1 to 16 bulk strings, and nothing after the last.
+pub fn decode(command: &[u8]) -> Option<Vec<&[u8]>> {
+    if command.len() > COMMAND_LIMIT {
+        return None;
+    }
+    let (count, mut rest) = read_line(b'*', command)?;
+    if !(1..=WORD_LIMIT).contains(&count) {
+        return None;
+    }
+    let mut words = Vec::new();
+    for _ in 0..count {
+        let (word, after) = read_bulk(rest)?;
+        words.push(word);
+        rest = after;
+    }
+    rest.is_empty().then_some(words)
 }
 
-impl<'a> Words<'a> {
-    /// No words yet.
-    pub fn new(command: &'a [u8]) -> Words<'a> {
-        Words { command, ends: [(0, 0); MAX_WORDS], count: 0 }
-    }
+/// A bulk string, and the bytes after it.
+fn read_bulk(bytes: &[u8]) -> Option<(&[u8], &[u8])> {
+    let (length, rest) = read_line(b'$', bytes)?;
+    let (word, rest) = rest.split_at_checked(length)?;
+    Some((word, rest.strip_prefix(b"\r\n")?))
+}
 
-    /// Reads an array of 1 to 16 bulk strings and nothing after it. The words
-    /// are filled in where they stand: moving them just after costs more than
-    /// the reading.
-    pub fn read(&mut self) -> Option<()> {
-        if self.command.len() > MAX_COMMAND {
-            return None;
+/// A line of a mark, a number in decimal without extra zeros, and CR LF; the
+/// number, and the bytes after the line.
+fn read_line(mark: u8, bytes: &[u8]) -> Option<(usize, &[u8])> {
+    let rest = bytes.strip_prefix(&[mark])?;
+    let digits = rest.iter().take_while(|byte| byte.is_ascii_digit()).count();
+    let (number, rest) = rest.split_at(digits);
+    Some((read_version(number)? as usize, rest.strip_prefix(b"\r\n")?))
+}
+
+/// A line of a mark and a number.
+pub fn line(mark: char, number: usize) -> Vec<u8> {
+    format!("{mark}{number}\r\n").into_bytes()
+}
+
+/// A bulk string: its length, its bytes, CR LF.
+pub fn bulk_bytes(bytes: &[u8]) -> Vec<u8> {
+    [&line('$', bytes.len()), bytes, b"\r\n"].concat()
+}
+
+/// A reply.
+#[derive(Debug)]
+pub enum Reply {
+    Simple(&'static str),
+    Error(String),
+    Integer(i64),
+    Bulk(Vec<u8>),
+    Nil,
+    Array(Vec<Reply>),
+}
+
+pub fn reply_bytes(reply: &Reply) -> Vec<u8> {
+    match reply {
+        Reply::Simple(text) => format!("+{text}\r\n").into_bytes(),
+        Reply::Error(text) => format!("-{text}\r\n").into_bytes(),
+        Reply::Integer(number) => format!(":{number}\r\n").into_bytes(),
+        Reply::Bulk(bytes) => bulk_bytes(bytes),
+        Reply::Nil => b"$-1\r\n".to_vec(),
+        Reply::Array(items) => {
+            let items: Vec<Vec<u8>> = items.iter().map(reply_bytes).collect();
+            [line('*', items.len()), items.concat()].concat()
         }
-        let (count, mut at) = length(self.command, 0, b'*')?;
-        if count == 0 || count > MAX_WORDS {
-            return None;
-        }
-        self.count = count;
-        for ends in &mut self.ends[..count] {
-            let (len, start) = length(self.command, at, b'$')?;
-            let end = start + len;
-            at = line_end(self.command, end)?;
-            *ends = (start as u16, end as u16);
-        }
-        (at == self.command.len()).then_some(())
     }
-
-    pub fn count(&self) -> usize {
-        self.count
-    }
-
-    pub fn word(&self, index: usize) -> &'a [u8] {
-        let (start, end) = self.ends[index];
-        &self.command[usize::from(start)..usize::from(end)]
-    }
-
-    /// Where in the command the word starts.
-    pub fn start(&self, index: usize) -> usize {
-        usize::from(self.ends[index].0)
-    }
-}
-
-/// Reads a type byte, a decimal length without extra zeros and a line end;
-/// gives the length and the place after it. No length of more than three
-/// digits fits in a command, so longer ones are refused unread.
-fn length(command: &[u8], at: usize, kind: u8) -> Option<(usize, usize)> {
-    let line = command.get(at..)?;
-    let (len, digits) = match *line {
-        [k, b'0', ..] if k == kind => (0, 1),
-        [k, a @ b'1'..=b'9', ref rest @ ..] if k == kind => match *rest {
-            [b @ b'0'..=b'9', c @ b'0'..=b'9', ..] => (value(&[a, b, c]), 3),
-            [b @ b'0'..=b'9', ..] => (value(&[a, b]), 2),
-            _ => (value(&[a]), 1),
-        },
-        _ => return None,
-    };
-    Some((len, line_end(command, at + 1 + digits)?))
-}
-
-fn value(digits: &[u8]) -> usize {
-    digits.iter().fold(0, |sum, digit| sum * 10 + usize::from(digit - b'0'))
-}
-
-/// The place after the CR LF that must stand here.
-fn line_end(command: &[u8], at: usize) -> Option<usize> {
-    (command.get(at..at + 2)? == b"\r\n").then_some(at + 2)
 }
 
 #[cfg(test)]
 mod tests {
     use super::*;
 
-    fn words(command: &[u8]) -> Option<Vec<&[u8]>> {
-        let mut words = Words::new(command);
-        words.read()?;
-        Some((0..words.count()).map(|i| words.word(i)).collect())
-    }
-
     #[test]
     fn takes_words_apart() {
-        assert_eq!(words(b"*1\r\n$0\r\n\r\n"), Some(vec![&b""[..]]));
+        assert_eq!(decode(b"*1\r\n$0\r\n\r\n"), Some(vec![&b""[..]]));
         assert_eq!(
-            words(b"*2\r\n$5\r\nEXGET\r\n$4\r\n\r\n\r\n\r\n"),
+            decode(b"*2\r\n$5\r\nEXGET\r\n$4\r\n\r\n\r\n\r\n"),
             Some(vec![&b"EXGET"[..], &b"\r\n\r\n"[..]])
         );
         let long = [&b"*1\r\n$123\r\n"[..], &[b'x'; 123], b"\r\n"].concat();
-        assert_eq!(words(&long), Some(vec![&[b'x'; 123][..]]));
+        assert_eq!(decode(&long), Some(vec![&[b'x'; 123][..]]));
     }
 
     #[test]
@@ -107,7 +97,7 @@ mod tests {
         for count in 0..=17 {
             let mut command = format!("*{count}\r\n").into_bytes();
             command.extend(b"$1\r\na\r\n".repeat(count));
-            assert_eq!(words(&command).is_some(), (1..=16).contains(&count), "{count}");
+            assert_eq!(decode(&command).is_some(), (1..=16).contains(&count), "{count}");
         }
     }
 
@@ -117,19 +107,19 @@ mod tests {
             let mut command = format!("*1\r\n${len}\r\n").into_bytes();
             command.extend(vec![b'x'; len]);
             command.extend(b"\r\n");
-            assert_eq!(words(&command).is_some(), command.len() <= 512);
+            assert_eq!(decode(&command).is_some(), command.len() <= 512);
         }
     }
 
     #[test]
     fn refuses_every_cut_and_every_addition() {
         let command = b"*2\r\n$5\r\nEXGET\r\n$12\r\nabcdefghijkl\r\n";
-        assert!(words(command).is_some());
+        assert!(decode(command).is_some());
         for len in 0..command.len() {
-            assert_eq!(words(&command[..len]), None, "{len}");
+            assert_eq!(decode(&command[..len]), None, "{len}");
         }
         for byte in 0..=255 {
-            assert_eq!(words(&[&command[..], &[byte]].concat()), None);
+            assert_eq!(decode(&[&command[..], &[byte]].concat()), None);
         }
     }
 
@@ -140,21 +130,21 @@ mod tests {
             "4294967297", "65537", "257", "1000",
         ] {
             let command = format!("*1\r\n${length}\r\na\r\n");
-            assert_eq!(words(command.as_bytes()), None, "{length:?}");
+            assert_eq!(decode(command.as_bytes()), None, "{length:?}");
             let command = format!("*{length}\r\n$1\r\na\r\n");
-            assert_eq!(words(command.as_bytes()), None, "{length:?}");
+            assert_eq!(decode(command.as_bytes()), None, "{length:?}");
         }
     }
 
     #[test]
     fn refuses_other_line_ends_and_types() {
         let command = b"*1\r\n$3\r\nabc\r\n";
-        assert!(words(command).is_some());
+        assert!(decode(command).is_some());
         for at in [0, 2, 3, 4, 6, 7, 11, 12] {
             for byte in 0..=255 {
                 let mut other = *command;
                 other[at] = byte;
-                assert_eq!(words(&other).is_some(), byte == command[at]);
+                assert_eq!(decode(&other).is_some(), byte == command[at]);
             }
         }
     }

@@ -1,146 +1,171 @@
-//! The table: its rules, and where in it a key stands or can be put.
+//! The table: slots of 128 bytes, each empty or with one record.
 
-use crate::key::Key;
-use crate::record::{self, Record, EMPTY, IN_USE, RECORD};
+/// The bytes of a record.
+pub const RECORD: usize = 128;
 
-pub const MAX_TIME: u64 = 1 << 62;
+/// The most records of a table.
+const TABLE_LIMIT: usize = 256;
 
-const MAX_RECORDS: usize = 256;
+pub const KEY_LIMIT: usize = 24;
+pub const VALUE_LIMIT: usize = 64;
 
-/// Where a key stands, and where it can be put if it does not.
-#[derive(Clone, Copy, Debug, Default, PartialEq, Eq)]
-pub struct Place {
-    /// The slot with the key, live or expired.
-    pub key_slot: Option<usize>,
-    /// Whether that record is live.
-    pub live: bool,
-    lowest_empty: Option<usize>,
-    lowest_expired: Option<usize>,
+/// The highest version, 2^63 - 1.
+pub const HIGHEST_VERSION: u64 = (1 << 63) - 1;
+
+/// The latest time and expiry, 2^62.
+pub const TIME_LIMIT: u64 = 1 << 62;
+
+/// Where in a record its value starts.
+pub const VALUE_AT: usize = 48;
+
+/// A record in use. An expiry of 0 is none.
+#[derive(Clone, Debug, PartialEq, Eq)]
+pub struct Record {
+    pub key: Vec<u8>,
+    pub value: Vec<u8>,
+    pub flags: u32,
+    pub version: u64,
+    pub expiry: u64,
 }
 
-impl Place {
-    /// The slot that a write to the key takes.
-    pub fn slot(&self) -> Option<usize> {
-        self.key_slot.or(self.lowest_empty).or(self.lowest_expired)
-    }
-}
+/// A record, or none where the slot is empty.
+pub type Slot = Option<Record>;
 
-/// Checks the whole table and looks for the key, in one pass. None if the
-/// table breaks a rule.
-pub fn scan(table: &[u8], time: u64, key: &Key) -> Option<Place> {
+/// The slots, if the table has 1 to 256 whole records and each keeps the rules.
+pub fn read_table(table: &[u8]) -> Option<Vec<Slot>> {
     let (records, rest) = table.as_chunks::<RECORD>();
-    if !rest.is_empty() || records.is_empty() || records.len() > MAX_RECORDS {
+    if !rest.is_empty() || !(1..=TABLE_LIMIT).contains(&records.len()) {
         return None;
     }
-    // A small table gets a small set, which is sooner cleared.
-    if records.len() <= 16 {
-        scan_records::<64>(records, time, key)
-    } else {
-        scan_records::<1024>(records, time, key)
+    records.iter().map(read_slot).collect()
+}
+
+fn read_slot(bytes: &[u8; RECORD]) -> Option<Slot> {
+    match bytes[0] {
+        0 if all_zero(bytes) => Some(None),
+        1 => read_record(bytes).map(Some),
+        _ => None,
     }
 }
 
-fn scan_records<const N: usize>(records: &[Record], time: u64, key: &Key) -> Option<Place> {
-    let mut seen = KeySet::<N>::new();
-    let mut place = Place::default();
-    for (slot, record) in records.iter().enumerate() {
-        match record[0] {
-            EMPTY => {
-                if !record::is_zero(record) {
-                    return None;
-                }
-                place.lowest_empty.get_or_insert(slot);
-            }
-            IN_USE => {
-                if !record::fields_are_good(record) {
-                    return None;
-                }
-                let this = Key::of(record);
-                if !seen.insert(&this, slot, records) {
-                    return None;
-                }
-                let live = record::is_live(record, time);
-                if this.equals(key) {
-                    place.key_slot = Some(slot);
-                    place.live = live;
-                }
-                if !live {
-                    place.lowest_expired.get_or_insert(slot);
-                }
-            }
-            _ => return None,
-        }
+/// The record, if every field is in its range and zeros stand where they must.
+fn read_record(bytes: &[u8; RECORD]) -> Option<Record> {
+    let key_length = usize::from(bytes[1]);
+    let value_length = usize::from(bytes[2]);
+    if !(1..=KEY_LIMIT).contains(&key_length) || value_length > VALUE_LIMIT || bytes[3] != 0 {
+        return None;
     }
-    Some(place)
+    let (key, after_key) = bytes[24..48].split_at(key_length);
+    let (value, after_value) = bytes[48..112].split_at(value_length);
+    if !all_zero(after_key) || !all_zero(after_value) || !all_zero(&bytes[112..128]) {
+        return None;
+    }
+    let flags = little_endian(&bytes[4..8]) as u32;
+    let version = little_endian(&bytes[8..16]);
+    let expiry = little_endian(&bytes[16..24]);
+    if version > HIGHEST_VERSION || expiry > TIME_LIMIT {
+        return None;
+    }
+    Some(Record { key: key.to_vec(), value: value.to_vec(), flags, version, expiry })
 }
 
-/// A set of keys, open-addressed by hash: each place holds 0 or a slot
-/// number plus one. It finds equal keys without comparing every two; N is at
-/// least twice the number of records, so a free place is always left.
-struct KeySet<const N: usize> {
-    slots: [u16; N],
+fn all_zero(bytes: &[u8]) -> bool {
+    bytes.iter().all(|byte| *byte == 0)
 }
 
-impl<const N: usize> KeySet<N> {
-    fn new() -> KeySet<N> {
-        KeySet { slots: [0; N] }
-    }
+/// The number that bytes hold, low byte first.
+fn little_endian(bytes: &[u8]) -> u64 {
+    bytes.iter().rev().fold(0, |number, byte| 256 * number + u64::from(*byte))
+}
 
-    /// False if an equal key is in the set already.
-    fn insert(&mut self, key: &Key, slot: usize, records: &[Record]) -> bool {
-        let mut at = (key.hash() >> (64 - N.ilog2())) as usize % N;
-        loop {
-            match self.slots[at] {
-                0 => {
-                    self.slots[at] = slot as u16 + 1;
-                    return true;
-                }
-                other if Key::of(&records[usize::from(other) - 1]).equals(key) => return false,
-                _ => at = (at + 1) % N,
+/// Whether no two records in use have equal keys, expired ones counted.
+pub fn distinct(slots: &[Slot]) -> bool {
+    let records: Vec<&Record> = slots.iter().flatten().collect();
+    for (i, record) in records.iter().enumerate() {
+        for other in &records[i + 1..] {
+            if record.key == other.key {
+                return false;
             }
         }
     }
+    true
 }
 
-/// The record in a slot.
-pub fn record_in(table: &[u8], slot: usize) -> &Record {
-    &table.as_chunks::<RECORD>().0[slot]
-}
-
-/// The record in a slot, for writing.
-pub fn record_in_mut(table: &mut [u8], slot: usize) -> &mut Record {
-    &mut table.as_chunks_mut::<RECORD>().0[slot]
+/// The 128 bytes of a slot; all are zeros if it is empty.
+pub fn slot_bytes(slot: &Slot) -> [u8; RECORD] {
+    let mut bytes = [0; RECORD];
+    if let Some(record) = slot {
+        bytes[0] = 1;
+        bytes[1] = record.key.len() as u8;
+        bytes[2] = record.value.len() as u8;
+        bytes[4..8].copy_from_slice(&record.flags.to_le_bytes());
+        bytes[8..16].copy_from_slice(&record.version.to_le_bytes());
+        bytes[16..24].copy_from_slice(&record.expiry.to_le_bytes());
+        bytes[24..][..record.key.len()].copy_from_slice(&record.key);
+        bytes[48..][..record.value.len()].copy_from_slice(&record.value);
+    }
+    bytes
 }
 
 #[cfg(test)]
 mod tests {
     use super::*;
 
-    /// The factor that undoes a multiplication by this odd one.
-    fn inverse(factor: u64) -> u64 {
-        let mut inverse = factor;
-        for _ in 0..6 {
-            inverse = inverse.wrapping_mul(2u64.wrapping_sub(factor.wrapping_mul(inverse)));
-        }
-        inverse
+    fn record() -> Record {
+        let (key, value) = (b"foo".to_vec(), b"100".to_vec());
+        Record { key, value, flags: 0x0403_0201, version: 258, expiry: TIME_LIMIT }
     }
 
     #[test]
-    fn keys_with_one_hash_are_still_told_apart() {
-        let undo = inverse(0x9e37_79b9_7f4a_7c15);
-        let mut table = vec![0; RECORD * MAX_RECORDS];
-        let (records, _) = table.as_chunks_mut::<RECORD>();
-        for (slot, record) in records.iter_mut().enumerate() {
-            let second = slot as u64;
-            let first = second.wrapping_mul(0xc2b2_ae3d_27d4_eb4f).wrapping_mul(undo);
-            record::start(record, &Key { len: 16, words: [first, second, 0] });
-            assert_eq!(Key::of(record).hash(), 0);
+    fn reads_the_bytes_that_it_writes() {
+        for slot in [None, Some(record())] {
+            assert_eq!(read_slot(&slot_bytes(&slot)), Some(slot));
         }
-        let last = Key::of(&records[255]);
-        let place = scan(&table, 0, &last).unwrap();
-        assert_eq!((place.key_slot, place.live), (Some(255), true));
-        let (records, _) = table.as_chunks_mut::<RECORD>();
-        records[255] = records[77];
-        assert_eq!(scan(&table, 0, &last), None);
+    }
+
+    #[test]
+    fn every_field_has_its_place() {
+        let bytes = slot_bytes(&Some(record()));
+        assert_eq!(bytes[..12], [1, 3, 3, 0, 1, 2, 3, 4, 2, 1, 0, 0]);
+        assert_eq!(bytes[16..24], TIME_LIMIT.to_le_bytes());
+        assert_eq!(bytes[24..28], *b"foo\0");
+        assert_eq!(bytes[48..52], *b"100\0");
+    }
+
+    #[test]
+    fn bytes_out_of_range_are_no_record() {
+        let good = slot_bytes(&Some(record()));
+        let wrong = [
+            (0, 2),
+            (1, 0),
+            (1, 25),
+            (1, 2),
+            (2, 65),
+            (2, 2),
+            (3, 1),
+            (15, 0x80),
+            (16, 1),
+            (27, 1),
+            (47, 1),
+            (51, 1),
+            (111, 1),
+            (112, 1),
+            (127, 1),
+        ];
+        for (at, byte) in wrong {
+            let mut bytes = good;
+            bytes[at] = byte;
+            assert_eq!(read_slot(&bytes), None, "byte {at}");
+        }
+        let mut empty = [0; RECORD];
+        empty[127] = 1;
+        assert_eq!(read_slot(&empty), None);
+    }
+
+    #[test]
+    fn keys_are_compared_with_their_lengths() {
+        let with = |key: &[u8]| Some(Record { key: key.to_vec(), ..record() });
+        assert!(distinct(&[with(b"a"), None, with(b"a\0"), None]));
+        assert!(!distinct(&[with(b"a"), None, with(b"b"), with(b"a")]));
     }
 }

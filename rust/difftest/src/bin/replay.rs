@@ -1,6 +1,6 @@
 //! Runs one case on the library and the reference and prints both outcomes.
 
-use difftest::compare::{difference, library, Outcome};
+use difftest::compare::{difference, library, Outcome, LIBRARY};
 use difftest::hex::unhex;
 use difftest::Case;
 use std::process::ExitCode;
@@ -16,8 +16,8 @@ fn main() -> ExitCode {
     let (ours, theirs) = (case.run(library), case.run(reference::call));
     print("library", &case, &ours);
     print("reference", &case, &theirs);
-    let shown = case.compare_current_value();
-    match (difference(&ours, &theirs), &shown) {
+    let shown = case.compare_current_value(&LIBRARY);
+    match (difference("library", &ours, &theirs), &shown) {
         (None, Ok(shown)) => {
             println!("they agree; current value {shown:?}");
             ExitCode::SUCCESS

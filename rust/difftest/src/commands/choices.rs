@@ -71,8 +71,8 @@ pub fn time_word(rng: &mut Rng, faults: &Faults, time: u64, percent: usize) -> O
             1 => most,
             2 => most - most.min(1),
             3 => rng.next_u64() % most + 1,
-            4 => present + rng.below(3) as u64,
-            _ => present + rng.between(1, 10_000) as u64,
+            4 => present.saturating_add(rng.below(3) as u64),
+            _ => present.saturating_add(rng.between(1, 10_000) as u64),
         };
         number.clamp(1, most) as i64
     };

@@ -7,7 +7,7 @@ use reference::Shown;
 fn current_value(table: &[u8], time: u64, command: &[u8]) -> Option<Shown> {
     let (table, command) = (table.to_vec(), command.to_vec());
     let case = Case { table, time, command, reply: Vec::new() };
-    case.compare_current_value().unwrap_or_else(|difference| panic!("{difference}"))
+    case.compare_current_value(&LIBRARY).unwrap_or_else(|difference| panic!("{difference}"))
 }
 
 fn shown(store: &Store, text: &str) -> Option<Shown> {

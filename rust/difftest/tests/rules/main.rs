@@ -8,6 +8,7 @@ mod rulings;
 mod sessions;
 mod tables;
 
+use difftest::compare::LIBRARY;
 use difftest::expect::ERRORS;
 use difftest::resp::encode;
 use difftest::{Answer, Case};
@@ -22,7 +23,7 @@ const TOP_VERSION: &str = "9223372036854775807";
 fn call(table: &mut [u8], time: u64, command: &[u8], reply: &mut [u8]) -> Answer {
     let case =
         Case { table: table.to_vec(), time, command: command.to_vec(), reply: reply.to_vec() };
-    let outcome = case.compare().unwrap_or_else(|difference| panic!("{difference}"));
+    let outcome = case.compare(&LIBRARY).unwrap_or_else(|difference| panic!("{difference}"));
     table.copy_from_slice(&outcome.table);
     reply.copy_from_slice(&outcome.reply);
     outcome.answer

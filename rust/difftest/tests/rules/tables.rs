@@ -156,6 +156,19 @@ fn keys_that_differ_in_one_byte_or_in_length_are_distinct() {
 }
 
 #[test]
+fn keys_that_meet_in_the_filter_are_told_apart() {
+    let keys = difftest::collisions::keys(256);
+    let records = keys.iter().map(|key| record(&[(0, &[1, 24]), (24, key.as_bytes())]));
+    let mut store = Store::with(&records.collect::<Vec<_>>());
+    for slot in [0, 1, 77, 254, 255] {
+        store.answer(&format!("EXSETVER {} 5", keys[slot]), ":1\r\n");
+        assert_eq!(store.record(slot)[8], 5);
+    }
+    store.table.copy_within(128 * 77..128 * 78, 128 * 255);
+    assert_eq!(number(&store.table), 1);
+}
+
+#[test]
 fn a_write_takes_its_own_record_then_an_empty_then_an_expired_one() {
     let expired = |key: &[u8]| {
         record(&[
