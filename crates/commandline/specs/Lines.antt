@@ -3,25 +3,28 @@ use Prim.Native.Nat.{ℕ}
 use mathlib.Core.Bool.{Bool, true, false}
 use Rattle.commandline.specs.declared.line.Line.{Line}
 use Rattle.commandline.specs.declared.switch.Switch.{Switch}
-use Rattle.commandline.specs.declared.switch.Switch.the-variants.{Table, Time, Init, List as Listing, Help, Status, Unknown, Word}
+use Rattle.commandline.specs.declared.switch.Switch.the-variants.{Table, Time, Init, List as Listing, Check, Keeper, End, Unknown, Word}
 
--- the line with the option at place `at` added, whose value stands at place `value`: of two equal options, the last counts
+-- the line with the option at place `at` added, whose value stands at place `value`: of two equal options, the last counts; after -- the words begin
 abbrev pub noted : Line → Switch → (at value : ℕ) → Line
-noted l Table at value = record { table = value; time = l .time; init = l .init; list = l .list; help = l .help; status = l .status; unknown = l .unknown; words = l .words }
-noted l Time at value = record { table = l .table; time = value; init = l .init; list = l .list; help = l .help; status = l .status; unknown = l .unknown; words = l .words }
-noted l Init at value = record { table = l .table; time = l .time; init = value; list = l .list; help = l .help; status = l .status; unknown = l .unknown; words = l .words }
-noted l Listing at value = record { table = l .table; time = l .time; init = l .init; list = at; help = l .help; status = l .status; unknown = l .unknown; words = l .words }
-noted l Help at value = record { table = l .table; time = l .time; init = l .init; list = l .list; help = at; status = l .status; unknown = l .unknown; words = l .words }
-noted l Status at value = record { table = l .table; time = l .time; init = l .init; list = l .list; help = l .help; status = at; unknown = l .unknown; words = l .words }
-noted l Unknown at value = record { table = l .table; time = l .time; init = l .init; list = l .list; help = l .help; status = l .status; unknown = at; words = l .words }
-noted l Word at value = record { table = l .table; time = l .time; init = l .init; list = l .list; help = l .help; status = l .status; unknown = l .unknown; words = at }
+noted l Table at value = record { table = value; time = l .time; init = l .init; list = l .list; check = l .check; keeper = l .keeper; unknown = l .unknown; words = l .words }
+noted l Time at value = record { table = l .table; time = value; init = l .init; list = l .list; check = l .check; keeper = l .keeper; unknown = l .unknown; words = l .words }
+noted l Init at value = record { table = l .table; time = l .time; init = value; list = l .list; check = l .check; keeper = l .keeper; unknown = l .unknown; words = l .words }
+noted l Listing at value = record { table = l .table; time = l .time; init = l .init; list = at; check = l .check; keeper = l .keeper; unknown = l .unknown; words = l .words }
+noted l Check at value = record { table = l .table; time = l .time; init = l .init; list = l .list; check = at; keeper = l .keeper; unknown = l .unknown; words = l .words }
+noted l Keeper at value = record { table = l .table; time = l .time; init = l .init; list = l .list; check = l .check; keeper = at; unknown = l .unknown; words = l .words }
+noted l End at value = record { table = l .table; time = l .time; init = l .init; list = l .list; check = l .check; keeper = l .keeper; unknown = l .unknown; words = value }
+noted l Unknown at value = record { table = l .table; time = l .time; init = l .init; list = l .list; check = l .check; keeper = l .keeper; unknown = at; words = l .words }
+noted l Word at value = record { table = l .table; time = l .time; init = l .init; list = l .list; check = l .check; keeper = l .keeper; unknown = l .unknown; words = at }
 
-abbrev pub isWord : Switch → Bool
-isWord Table = false
-isWord Time = false
-isWord Init = false
-isWord Listing = false
-isWord Help = false
-isWord Status = false
-isWord Unknown = false
-isWord Word = true
+-- after these the words of a command follow
+abbrev pub isLast : Switch → Bool
+isLast Table = false
+isLast Time = false
+isLast Init = false
+isLast Listing = false
+isLast Check = false
+isLast Keeper = false
+isLast End = true
+isLast Unknown = false
+isLast Word = true

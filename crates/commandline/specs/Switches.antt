@@ -9,7 +9,7 @@ use Rattle.model.specs.Optional.{only}
 use Rattle.model.specs.Number.{readVersion}
 use Rattle.model.specs.Command.{look}
 use Rattle.commandline.specs.declared.switch.Switch.{Switch}
-use Rattle.commandline.specs.declared.switch.Switch.the-variants.{Table, Time, Init, List as Listing, Help, Status, Unknown, Word}
+use Rattle.commandline.specs.declared.switch.Switch.the-variants.{Table, Time, Init, List as Listing, Check, Keeper, End, Unknown, Word}
 
 -- a word that begins with a minus is an option
 abbrev pub dashed : List ℕ → Bool
@@ -23,8 +23,9 @@ switches =
     ∷ (text "--time", Time)
     ∷ (text "--init", Init)
     ∷ (text "--list", Listing)
-    ∷ (text "--help", Help)
-    ∷ (text "--status", Status)
+    ∷ (text "--check", Check)
+    ∷ (text "--keeper", Keeper)
+    ∷ (text "--", End)
     ∷ []
 
 abbrev pub switchFrom : Option Switch → Switch
@@ -41,8 +42,9 @@ takesValue Table = true
 takesValue Time = true
 takesValue Init = true
 takesValue Listing = false
-takesValue Help = false
-takesValue Status = false
+takesValue Check = false
+takesValue Keeper = false
+takesValue End = false
 takesValue Unknown = false
 takesValue Word = false
 

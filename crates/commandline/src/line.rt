@@ -4,7 +4,7 @@ use crate::switch::switch_of;
 use crate::switch::takes_value;
 ghost use mathlib.Core.Path.{_≡_};
 ghost use Prim.Native.Nat.{_≤_};
-ghost use Rattle.commandline.specs.Lines.{noted, isWord};
+ghost use Rattle.commandline.specs.Lines.{noted, isLast};
 
 // The place of each option's value, or of the option where it takes none; 0 where it is not given. Of two, the last counts. The words
 // of the command begin at `words`, which is the count of the arguments where there are none.
@@ -13,8 +13,8 @@ pub struct Line {
     pub time: usize,
     pub init: usize,
     pub list: usize,
-    pub help: usize,
-    pub status: usize,
+    pub check: usize,
+    pub keeper: usize,
     pub unknown: usize,
     pub words: usize,
 }
@@ -38,8 +38,9 @@ fn noted(mut line: Line, switch: Switch, at: usize, value: usize) -> Line
         Switch::Time => line.time = value,
         Switch::Init => line.init = value,
         Switch::List => line.list = at,
-        Switch::Help => line.help = at,
-        Switch::Status => line.status = at,
+        Switch::Check => line.check = at,
+        Switch::Keeper => line.keeper = at,
+        Switch::End => line.words = value,
         Switch::Unknown => line.unknown = at,
         Switch::Word => line.words = at,
     }
@@ -53,24 +54,25 @@ fn bare(count: usize) -> Line {
         time: 0,
         init: 0,
         list: 0,
-        help: 0,
-        status: 0,
+        check: 0,
+        keeper: 0,
         unknown: 0,
         words: count,
     }
 }
 
-// Whether an argument is the first word of a command.
-fn is_word(switch: Switch) -> bool
-    ensures { λ r. ⌜ r ≡ isWord switch ⌝ }
+// Whether no option follows an argument: it is the first word of a command, or stands before it.
+fn is_last(switch: Switch) -> bool
+    ensures { λ r. ⌜ r ≡ isLast switch ⌝ }
 {
     match switch {
         Switch::Table => false,
         Switch::Time => false,
         Switch::Init => false,
         Switch::List => false,
-        Switch::Help => false,
-        Switch::Status => false,
+        Switch::Check => false,
+        Switch::Keeper => false,
+        Switch::End => true,
         Switch::Unknown => false,
         Switch::Word => true,
     }
@@ -96,7 +98,7 @@ pub fn read_line(count: usize) -> Line {
         let switch = switch_at(at);
         let value = at + 1;
         line = noted(line, switch, at, value);
-        if is_word(switch) {
+        if is_last(switch) {
             return line;
         }
         at = after(switch, value, count);

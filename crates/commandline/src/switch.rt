@@ -9,8 +9,9 @@ pub enum Switch {
     Time,
     Init,
     List,
-    Help,
-    Status,
+    Check,
+    Keeper,
+    End,
     Unknown,
     Word,
 }
@@ -41,11 +42,14 @@ fn spelled(w: &[u8]) -> Switch
     if slice::same(w, b"--list") {
         return Switch::List;
     }
-    if slice::same(w, b"--help") {
-        return Switch::Help;
+    if slice::same(w, b"--check") {
+        return Switch::Check;
     }
-    if slice::same(w, b"--status") {
-        return Switch::Status;
+    if slice::same(w, b"--keeper") {
+        return Switch::Keeper;
+    }
+    if slice::same(w, b"--") {
+        return Switch::End;
     }
     Switch::Unknown
 }
@@ -70,8 +74,9 @@ pub fn takes_value(s: Switch) -> bool
         Switch::Time => true,
         Switch::Init => true,
         Switch::List => false,
-        Switch::Help => false,
-        Switch::Status => false,
+        Switch::Check => false,
+        Switch::Keeper => false,
+        Switch::End => false,
         Switch::Unknown => false,
         Switch::Word => false,
     }

@@ -2,7 +2,7 @@
 -- the table holds.
 use Prim.Native.Nat.{ℕ}
 use mathlib.Core.Path.{_≡_}
-use mathlib.Core.Bool.{Bool, _||_, _&&_, not}
+use mathlib.Core.Bool.{Bool, _&&_, not}
 use mathlib.Core.List.{List}
 use lib.Dec.{eqb}
 use Rattle.model.specs.Bytes.{same}
@@ -10,10 +10,10 @@ use Rattle.model.specs.Call.{Outcome}
 use Rattle.store.specs.Called.{Called}
 use Rattle.shell.specs.declared.exchange.Exchange.{Exchange}
 
--- whether the outcome of a call is to be written to a file with the bytes `old`, or to one that is missing
-abbrev pub toWrite : Outcome → (old : List ℕ) (missing : Bool) → Bool
-toWrite o old missing = eqb (o .number) 0 && (missing || not (same old (o .table)))
+-- whether the outcome of a call is to be written to a file with the bytes `old`
+abbrev pub toWrite : Outcome → (old : List ℕ) → Bool
+toWrite o old = eqb (o .number) 0 && not (same old (o .table))
 
-pub record Exchanged (o : Outcome) (old : List ℕ) (missing : Bool) (e : Exchange) (t b : List ℕ) : Type 0 where
+pub record Exchanged (o : Outcome) (old : List ℕ) (e : Exchange) (t b : List ℕ) : Type 0 where
   pub called : Called o (e .answer) t b
-  pub writes : e .write ≡ toWrite o old missing
+  pub writes : e .write ≡ toWrite o old

@@ -1,8 +1,18 @@
 -- The exit status of the program by the number of the store's answer.
 use Prim.Native.Nat.{ℕ}
-use mathlib.Core.Bool.{cond, _&&_}
+use mathlib.Core.Path.{_≡_}
+use mathlib.Core.Bool.{Bool, cond, _&&_}
 use lib.Dec.{leb, eqb}
 
 -- 0 where the command was answered, 1 where it was answered by an error reply, 2 where there is no reply
 abbrev pub statusOf : ℕ → ℕ
 statusOf n = cond (eqb n 0) 0 (cond (leb 5 n && leb n 17) 1 2)
+
+-- the same where the reply was written; where it was not, 3 if the table changed and 2 if it did not
+abbrev pub toldStatus : (written changed : Bool) → ℕ → ℕ
+toldStatus written changed n = cond written (statusOf n) (cond changed 3 2)
+
+-- r is the exit status of an answer with the number n, whether its reply was written or not
+pub record Told (changed : Bool) (n r : ℕ) : Type 0 where
+  pub written : Bool
+  pub status : r ≡ toldStatus written changed n

@@ -11,16 +11,15 @@ pub struct Exchange {
     pub write: bool,
 }
 
-// Calls the store. `old` is the table as its file has it, and `missing` says that there is no file yet.
+// Calls the store. `old` is the table as its file has it.
 pub fn carry_out(
     old: &[u8],
-    missing: bool,
     table: &mut [u8],
     time: u64,
     command: &[u8],
     reply: &mut [u8],
 ) -> Exchange
-    ensures { λ r. ⌜ Exchanged (call form128 (now (table .entry)) time (now (command .entry)) (now (reply .entry))) (now (old .entry)) missing r (now (table .exit)) (now (reply .exit)) ⌝ }
+    ensures { λ r. ⌜ Exchanged (call form128 (now (table .entry)) time (now (command .entry)) (now (reply .entry))) (now (old .entry)) r (now (table .exit)) (now (reply .exit)) ⌝ }
 {
     let answer = store::call(table, time, command, reply);
     if answer.number != 0 {
@@ -29,7 +28,6 @@ pub fn carry_out(
             write: false,
         };
     }
-    let changed = !slice::same(old, table);
-    let write = missing | changed;
+    let write = !slice::same(old, table);
     Exchange { answer, write }
 }

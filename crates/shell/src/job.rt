@@ -1,11 +1,11 @@
 // The jobs of the command line.
 use crate::creation::init;
 use crate::listing::list;
+use crate::notice::Clock;
 use crate::notice::REFUSED;
 use crate::notice::refuse;
 use crate::notice::refuse_call;
 use crate::notice::refuse_word;
-use crate::notice::usage;
 use crate::serve::serve;
 use commandline::Line;
 use commandline::ROOM;
@@ -16,58 +16,61 @@ use commandline::records_at;
 use libc::STDIN_FILENO;
 use number::Natural;
 use tablefile::Loaded;
-use tablefile::put_new_name;
 use tablefile::read_whole;
 
-// The longest path: its new file has four bytes more, and C takes 4,095.
-const LONGEST: usize = 4091;
+// The longest path: the new file's name has 21 bytes, and C takes 4,095.
+const LONGEST: usize = 4074;
 
 // Applies the first n bytes of a buffer as a command.
-fn send(path: &[u8], new: &[u8], time: u64, buffer: &[u8; ROOM], n: usize, raw: bool) -> u64 {
+fn send(path: &[u8], clock: Clock, buffer: &[u8; ROOM], n: usize, raw: bool) -> u64 {
     let command: &[u8] = buffer;
     if n <= command.len() {
-        return serve(path, new, time, &command[0..n], raw);
+        return serve(path, clock, &command[0..n], raw);
     }
     refuse_call(4, path)
 }
 
 // Applies the command on standard input.
-fn send_input(path: &[u8], new: &[u8], time: u64) -> u64 {
+fn send_input(path: &[u8], clock: Clock) -> u64 {
     let mut command = [0u8; ROOM];
     let loaded = read_whole(STDIN_FILENO, b"standard input", &mut command);
     let Loaded::Bytes(n) = loaded else {
         return REFUSED;
     };
-    send(path, new, time, &command, n, true)
+    send(path, clock, &command, n, true)
 }
 
 // Applies the command of the words from `first` on.
-fn send_words(path: &[u8], new: &[u8], time: u64, first: usize, count: usize) -> u64 {
+fn send_words(path: &[u8], clock: Clock, first: usize, count: usize) -> u64 {
     let mut command = [0u8; ROOM];
     let n = compose(first, count, &mut command);
-    send(path, new, time, &command, n, false)
+    send(path, clock, &command, n, false)
 }
 
 // Makes a new table.
-fn run_init(line: Line, path: &[u8], new: &[u8]) -> u64 {
+fn run_init(line: Line, path: &[u8]) -> u64 {
     let Natural::Value(records) = records_at(line.init) else {
         return refuse(b"--init needs a number of records from 1 to 256");
     };
-    init(path, new, records)
+    init(path, records)
 }
 
-// Does a job that needs the time.
-fn run_timed(line: Line, count: usize, path: &[u8], new: &[u8]) -> u64 {
-    let Natural::Value(time) = number_at(line.time) else {
-        return refuse(b"--time needs a number of milliseconds");
-    };
+// Does a job that has a time.
+fn run_by(line: Line, count: usize, path: &[u8], clock: Clock) -> u64 {
+    let kept = line.keeper != 0;
     if line.list != 0 {
-        return list(path, time);
+        return list(kept, path, clock, true);
+    }
+    if line.check != 0 {
+        return list(kept, path, clock, false);
+    }
+    if !kept {
+        return refuse(b"this program needs the keeper that the script pietrunel runs");
     }
     if line.words < count {
-        return send_words(path, new, time, line.words, count);
+        return send_words(path, clock, line.words, count);
     }
-    send_input(path, new, time)
+    send_input(path, clock)
 }
 
 // Does the job with the table at a path.
@@ -75,55 +78,56 @@ fn run_at(line: Line, count: usize, path: &[u8]) -> u64 {
     if LONGEST < path.len() {
         return refuse(b"the file's name is too long");
     }
-    let mut new = io::buffer();
-    let n = put_new_name(path, &mut new);
-    run_both(line, count, path, &new, n)
-}
-
-// Does the job with the table at a path and its new file, whose name is the first n bytes of a buffer.
-fn run_both(line: Line, count: usize, path: &[u8], buffer: &[u8; 4096], n: usize) -> u64 {
-    let new: &[u8] = buffer;
-    if new.len() < n {
-        return refuse(b"the file's name is too long");
-    }
     if line.init != 0 {
-        return run_init(line, path, &new[0..n]);
+        return run_init(line, path);
     }
-    run_timed(line, count, path, &new[0..n])
+    if line.time == 0 {
+        return run_by(line, count, path, Clock::Machine);
+    }
+    let Natural::Value(time) = number_at(line.time) else {
+        return refuse(b"--time needs a number of milliseconds");
+    };
+    run_by(line, count, path, Clock::Set(time))
 }
 
 // Does the job with the table whose path is the first n bytes of a buffer.
 fn run_first(line: Line, count: usize, buffer: &[u8; 4096], n: usize) -> u64 {
     let path: &[u8] = buffer;
-    if n == 0 {
-        return refuse(b"-t needs the name of a file");
-    }
     if path.len() < n {
         return refuse(b"the file's name is too long");
     }
     run_at(line, count, &path[0..n])
 }
 
-// Whether --init or --list stands beside the other or beside a command.
+// Whether two jobs are asked for: of --init, --list, --check and a command.
 fn is_mixed(line: Line, count: usize) -> bool {
     let init = line.init != 0;
     let list = line.list != 0;
+    let check = line.check != 0;
     let words = line.words < count;
-    (init & list) | ((init | list) & words)
+    (init & (list | check)) | ((list & check) | ((init | (list | check)) & words))
+}
+
+// Says that no path can be had, and why.
+fn refuse_path(error: i32) -> u64 {
+    if error == libc::ENAMETOOLONG {
+        return refuse(b"the file's name is too long");
+    }
+    refuse(b"-t needs the name of a file")
 }
 
 // Does the job of a command line, and gives back the exit status.
 pub fn run(line: Line, count: usize) -> u64 {
-    if line.help != 0 {
-        return usage();
-    }
     if line.unknown != 0 {
         return refuse_word(line.unknown, b"is no option; see --help");
     }
     if is_mixed(line, count) {
-        return refuse(b"--init and --list stand alone, without a command");
+        return refuse(b"--init, --list and --check stand alone, without a command");
     }
     let mut path = io::buffer();
     let n = path_at(line.table, &mut path);
+    if n == 0 {
+        return refuse_path(os::errno());
+    }
     run_first(line, count, &path, n)
 }

@@ -1,22 +1,22 @@
-// Commands on a table file, from the command line or from standard input. The script `pietrunel` at the repository's root runs this program:
-// it adds the time, and takes the exit status from descriptor 3.
+// Commands on a table file, from the command line or from standard input. The script `pietrunel` at the repository's root runs this program
+// and a keeper beside it, which has the table's lock and the time, and takes the exit status.
+mod calendar;
 mod creation;
 mod exchange;
+mod fault;
 mod job;
+mod keeper;
 mod listing;
 mod notice;
 mod serve;
 
 use commandline::read_line;
 
-// The descriptor that the status goes to.
-const STATUS_FILENO: i32 = 3;
-
 fn main() {
     let count = os::arg_count();
     let line = read_line(count);
     let status = job::run(line, count);
-    if line.status != 0 {
-        io::print_decimal(STATUS_FILENO, status);
+    if line.keeper != 0 {
+        keeper::tell_status(status);
     }
 }

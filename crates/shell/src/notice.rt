@@ -1,8 +1,7 @@
-// What is told: the usage, and one line for each refusal. The exit statuses.
+// What is told: one line for each refusal. The exit statuses, and the time of a call.
 use terminal::complain;
-use terminal::print;
 ghost use mathlib.Core.Path.{_≡_};
-ghost use Rattle.shell.specs.Status.{statusOf};
+ghost use Rattle.shell.specs.Status.{statusOf, toldStatus};
 
 // Answered.
 pub const DONE: u64 = 0;
@@ -12,6 +11,9 @@ pub const ERROR: u64 = 1;
 
 // Refused, with a line on standard error.
 pub const REFUSED: u64 = 2;
+
+// The table did change, and the reply could not be written.
+pub const UNTOLD: u64 = 3;
 
 // The exit status of an answer by its number.
 pub fn status_of(number: u32) -> u64
@@ -27,25 +29,31 @@ pub fn status_of(number: u32) -> u64
     REFUSED
 }
 
-// Prints the usage.
-pub fn usage() -> u64 {
-    print(
-        b"Usage: pietrunel [-t FILE] [--time MS] [WORD...]\n\
-          \x20      pietrunel [-t FILE] --init N\n\
-          \x20      pietrunel [-t FILE] [--time MS] --list\n\
-          Applies the command of the words to a table and prints the reply. With no words, one RESP2\n\
-          command is read from standard input and the RESP2 reply is written as it is.\n\
-          \n\
-          \x20 -t FILE    the table's file (pietrunel.table); made with 16 records if missing\n\
-          \x20 --time MS  the time of the call in milliseconds (the machine's)\n\
-          \x20 --init N   makes a new table of N records, 1 to 256\n\
-          \x20 --list     shows the records in use\n\
-          \x20 --help     shows this\n\
-          \n\
-          Commands: EXSET EXGET EXSETVER EXINCRBY EXCAS EXCAD EXAPPEND EXPREPEND EXGAE DEL\n\
-          Exit status: 0 answered, 1 answered by an error, 2 refused; then nothing was changed.\n",
-    );
-    DONE
+// The exit status of an answer whose reply was written or not, after a command that changed the table or not.
+pub fn status_told(written: bool, changed: bool, number: u32) -> u64
+    ensures { λ r. ⌜ r ≡ toldStatus written changed number ⌝ }
+{
+    if written {
+        return status_of(number);
+    }
+    if changed {
+        return UNTOLD;
+    }
+    REFUSED
+}
+
+// The time of a call: one that is set, or that of the lock's grant.
+pub enum Clock {
+    Set(u64),
+    Machine,
+}
+
+// The time by a clock, where the lock was granted at a time.
+pub fn time_by(clock: Clock, granted: u64) -> u64 {
+    match clock {
+        Clock::Set(time) => time,
+        Clock::Machine => granted,
+    }
 }
 
 // Says why nothing was done.
@@ -64,6 +72,23 @@ pub fn refuse_file(path: &[u8], why: &[u8]) -> u64 {
     complain(why);
     complain(b"\n");
     REFUSED
+}
+
+// Says that standard output cannot be written, and why.
+pub fn refuse_output() -> u64 {
+    complain(b"pietrunel: ");
+    os::fail(b"standard output");
+    REFUSED
+}
+
+// Says that a reply could not be written, why, and whether the table did change.
+pub fn tell_unwritten(changed: bool) {
+    if changed {
+        complain(b"pietrunel: the table did change, but the reply cannot be written: ");
+    } else {
+        complain(b"pietrunel: nothing was changed, and the reply cannot be written: ");
+    }
+    os::fail(b"standard output");
 }
 
 // Says what is wrong with the argument at a place.

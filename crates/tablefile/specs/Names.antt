@@ -5,9 +5,9 @@ use mathlib.Core.List.{List, [], _∷_, _++_}
 use lib.Dec.{eqb, ltb}
 use Rattle.model.specs.Bytes.{text}
 
--- the new file stands beside the table: its name, then .new
+-- the new file stands in the table's folder, whose name ends in a slash or is empty; its own name does not depend on the table's
 abbrev pub newName : List ℕ → List ℕ
-newName path = path ++ text ".new"
+newName folder = folder ++ text ".pietrunel.new.XXXXXX"
 
 -- the place after the last slash of a path, 0 where there is none
 unfoldable pub afterSlash : List ℕ → ℕ

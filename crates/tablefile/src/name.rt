@@ -1,22 +1,22 @@
-// The names beside a table's: that of its new file, and that of its folder.
+// The names beside a table's: that of its folder, and that of the new file in it.
 ghost use mathlib.Core.Path.{_≡_};
 ghost use Prim.Native.Nat.{_+_, _≤_};
 ghost use lib.ListN.{length};
 ghost use Rattle.slice.specs.Wrote.{Wrote};
 ghost use Rattle.tablefile.specs.Names.{newName, afterSlash};
 
-// What the new file's name has after the table's: `.new`.
-const ENDING: [u8; 4] = *b".new";
+// The new file's name in its folder; the system puts other letters for the last six, so that no file is called so yet.
+const NEW: [u8; 21] = *b".pietrunel.new.XXXXXX";
 
-// Writes the name of the new file at the start of a buffer, and gives back its length.
-pub fn put_new_name(path: &[u8], out: &mut [u8]) -> usize
-    requires { ⌜ length (newName (now path)) ≤ length (now out) ⌝ }
-    ensures { λ r. ⌜ Wrote 0 (newName (now (path .entry))) (now (out .entry)) (now (out .exit)) r ⌝ }
+// Writes the pattern of the new file's name at the start of a buffer, and gives back its length.
+pub fn put_new_name(folder: &[u8], out: &mut [u8]) -> usize
+    requires { ⌜ length (newName (now folder)) ≤ length (now out) ⌝ }
+    ensures { λ r. ⌜ Wrote 0 (newName (now (folder .entry))) (now (out .entry)) (now (out .exit)) r ⌝ }
 {
-    slice::copy(out, 0, path);
-    let n = path.len();
-    slice::copy(out, n, &ENDING);
-    n + 4
+    slice::copy(out, 0, folder);
+    let n = folder.len();
+    slice::copy(out, n, &NEW);
+    n + 21
 }
 
 // How many bytes of a path name its folder: those up to its last slash, which is counted.

@@ -1,5 +1,5 @@
 // Bytes between quotes, as redis-cli writes them: what does not print is escaped.
-use crate::text::print;
+use crate::page::add;
 ghost use mathlib.Core.Path.{_≡_};
 ghost use Prim.Native.Nat.{_+_, _*_, _≤_, _<_};
 ghost use lib.ListN.{length};
@@ -84,21 +84,22 @@ pub fn escape(text: &[u8], out: &mut [u8]) -> usize
     at
 }
 
-// Prints the first n bytes of a buffer.
-fn print_first(buffer: &[u8; ROOM], n: usize) {
+// Adds the first n bytes of a buffer to a page.
+fn add_first(page: &mut [u8], at: usize, buffer: &[u8; ROOM], n: usize) -> usize {
     let text: &[u8] = buffer;
     if n <= text.len() {
-        print(&text[0..n]);
+        return add(page, at, &text[0..n]);
     }
+    at
 }
 
-// Prints a piece of a text as it stands between quotes.
-fn print_piece(text: &[u8])
+// Adds a piece of a text as it stands between quotes to a page.
+fn add_piece(page: &mut [u8], at: usize, text: &[u8]) -> usize
     requires { ⌜ length (now text) ≤ 64 ⌝ }
 {
     let mut room = [0u8; ROOM];
     let n = escape(text, &mut room);
-    print_first(&room, n);
+    add_first(page, at, &room, n)
 }
 
 // The size of the next piece where some bytes are left.
@@ -109,14 +110,14 @@ fn next_size(left: usize) -> usize
     if left < PIECE { left } else { PIECE }
 }
 
-// Prints a text in quotes, a piece after the other.
-pub fn print_quoted(text: &[u8]) {
-    print(b"\"");
+// Adds a text in quotes to a page, a piece after the other, and gives back the place after it.
+pub fn add_quoted(page: &mut [u8], at: usize, text: &[u8]) -> usize {
+    let mut next = add(page, at, b"\"");
     let mut from = 0;
     while from < text.len() {
         let end = from + next_size(text.len() - from);
-        print_piece(&text[from..end]);
+        next = add_piece(page, next, &text[from..end]);
         from = end;
     }
-    print(b"\"");
+    add(page, next, b"\"")
 }

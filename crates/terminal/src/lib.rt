@@ -1,9 +1,15 @@
 // Text for a terminal: bytes as they are, bytes in quotes with the unprintable ones escaped, and replies as redis-cli prints them.
 mod escape;
+mod page;
 mod printed;
 mod text;
 
-pub use escape::print_quoted;
+pub use escape::add_quoted;
+pub use page::PAGE;
+pub use page::add;
+pub use page::add_decimal;
+pub use page::add_natural;
+pub use page::print_page;
 pub use printed::print_reply;
 pub use text::complain;
 pub use text::find;

@@ -1,11 +1,18 @@
-// A RESP2 reply, printed as redis-cli prints it. Where the bytes are no RESP2, a place is given back
-// as 0.
-use crate::escape::print_quoted;
+// A RESP2 reply, printed as redis-cli prints it, in one write. Where the bytes are no RESP2, a place in them is given back as 0.
+use crate::escape::add_quoted;
+use crate::page::PAGE;
+use crate::page::add;
+use crate::page::add_natural;
+use crate::page::print_page;
 use crate::text::find;
-use crate::text::print;
-use libc::STDOUT_FILENO;
 ghost use Prim.Native.Nat.{_≤_};
 ghost use lib.ListN.{length};
+
+// How far a reply is read, and how far its page is filled.
+struct Step {
+    next: usize,
+    at: usize,
+}
 
 // The place after the CR LF that stands at a place of a reply, or 0 where it does not stand there.
 fn after_line(reply: &[u8], end: usize) -> usize
@@ -68,72 +75,95 @@ fn is_nil(text: &[u8]) -> bool {
     }
 }
 
-// Prints the text of n bytes that stands at a place, in quotes, and gives back the place after its
-// CR LF, or 0.
-fn print_bulk(reply: &[u8], start: usize, n: usize) -> usize
+// Adds the text of n bytes that stands at a place, in quotes; it is read to after its CR LF.
+fn add_bulk(page: &mut [u8], at: usize, reply: &[u8], start: usize, n: usize) -> Step
     requires { ⌜ start ≤ length (now reply) ⌝ }
 {
     if reply.len() - start < n {
-        return 0;
+        return Step { next: 0, at };
     }
     let end = start + n;
-    print_quoted(&reply[start..end]);
-    after_line(reply, end)
+    let filled = add_quoted(page, at, &reply[start..end]);
+    Step {
+        next: after_line(reply, end),
+        at: filled,
+    }
 }
 
-// Prints the item that begins at a place and is no array, and gives back the place after it, or 0.
-fn print_item(reply: &[u8], from: usize) -> usize {
+// What redis-cli puts before an item of one line.
+fn add_kind(page: &mut [u8], at: usize, kind: u8) -> usize {
+    if kind == b'-' {
+        return add(page, at, b"(error) ");
+    }
+    if kind == b':' {
+        return add(page, at, b"(integer) ");
+    }
+    at
+}
+
+// Whether an item of a kind is one line.
+fn is_line(kind: u8) -> bool {
+    kind == b'-' || kind == b':' || kind == b'+'
+}
+
+// Adds the bulk string, or nil, whose length stands from `start` to `end`, and whose bytes stand at `next`.
+fn add_text(page: &mut [u8], at: usize, reply: &[u8], start: usize, end: usize, next: usize) -> Step
+    requires { ⌜ (start ≤ end) × (end ≤ length (now reply)) × (next ≤ length (now reply)) ⌝ }
+{
+    if is_nil(&reply[start..end]) {
+        return Step {
+            next,
+            at: add(page, at, b"(nil)"),
+        };
+    }
+    add_bulk(page, at, reply, next, number(&reply[start..end]))
+}
+
+// Adds the item that begins at a place and is no array.
+fn add_item(page: &mut [u8], at: usize, reply: &[u8], from: usize) -> Step {
     if reply.len() <= from {
-        return 0;
+        return Step { next: 0, at };
     }
     let start = from + 1;
     let end = find(reply, start, b'\r');
     let next = after_line(reply, end);
     if next == 0 {
-        return 0;
+        return Step { next: 0, at };
     }
     let kind = reply[from];
     if kind == b'$' {
-        if is_nil(&reply[start..end]) {
-            print(b"(nil)");
-            return next;
-        }
-        return print_bulk(reply, next, number(&reply[start..end]));
+        return add_text(page, at, reply, start, end, next);
     }
-    if !print_kind(kind) {
-        return 0;
+    if !is_line(kind) {
+        return Step { next: 0, at };
     }
-    print(&reply[start..end]);
-    next
+    let filled = add_kind(page, at, kind);
+    Step {
+        next,
+        at: add(page, filled, &reply[start..end]),
+    }
 }
 
-// Prints what redis-cli puts before an error or an integer, and gives back whether an item of this
-// kind is one line.
-fn print_kind(kind: u8) -> bool {
-    if kind == b'-' {
-        print(b"(error) ");
-        return true;
+// Adds the number of an item that stands at a place. The empty simple string has no blank before it.
+fn add_place(page: &mut [u8], at: usize, reply: &[u8], from: usize, i: usize) -> usize {
+    let filled = add_natural(page, at, b"", i as u64);
+    if is_empty_string(reply, from) {
+        return add(page, filled, b")");
     }
-    if kind == b':' {
-        print(b"(integer) ");
-        return true;
-    }
-    kind == b'+'
+    add(page, filled, b") ")
 }
 
-// Prints one item of an array with its number, and gives back the place after it, or 0.
-fn print_numbered(reply: &[u8], at: usize, i: usize) -> usize {
-    io::print_decimal(STDOUT_FILENO, i as u64);
-    print(b")");
-    if !is_empty_string(reply, at) {
-        print(b" ");
+// Adds one item of an array with its number.
+fn add_numbered(page: &mut [u8], at: usize, reply: &[u8], from: usize, i: usize) -> Step {
+    let filled = add_place(page, at, reply, from, i);
+    let step = add_item(page, filled, reply, from);
+    Step {
+        next: step.next,
+        at: add(page, step.at, b"\n"),
     }
-    let next = print_item(reply, at);
-    print(b"\n");
-    next
 }
 
-// Whether the empty simple string stands at a place: it is printed without a blank before it.
+// Whether the empty simple string stands at a place.
 fn is_empty_string(reply: &[u8], at: usize) -> bool {
     if reply.len() < 2 {
         return false;
@@ -144,45 +174,57 @@ fn is_empty_string(reply: &[u8], at: usize) -> bool {
     reply[at] == b'+' && reply[at + 1] == b'\r'
 }
 
-// Prints the items of an array of less than ten, and gives back the place after the last, or 0.
-fn print_array(reply: &[u8]) -> usize {
+// Adds the items of an array of less than ten.
+fn add_array(page: &mut [u8], reply: &[u8]) -> Step {
     if reply.len() < 2 {
-        return 0;
+        return Step { next: 0, at: 0 };
     }
     let count = digit(reply[1]);
-    let mut at = after_line(reply, 2);
+    let mut step = Step {
+        next: after_line(reply, 2),
+        at: 0,
+    };
     let mut i = 0;
     while i < count {
-        if at == 0 {
-            return 0;
+        if step.next == 0 {
+            return step;
         }
         i += 1;
-        at = print_numbered(reply, at, i);
+        step = add_numbered(page, step.at, reply, step.next, i);
     }
-    at
+    step
 }
 
-// Prints a reply as redis-cli does, and says so where it is no RESP2 or bytes are left after it. A
-// reply of no bytes prints nothing.
-pub fn print_reply(reply: &[u8]) {
+// Adds an array, or an item by itself.
+fn add_whole(page: &mut [u8], reply: &[u8]) -> Step {
     if reply.len() == 0 {
-        return;
-    }
-    let end = print_whole(reply);
-    if end != reply.len() {
-        print(b"malformed reply\n");
-    }
-}
-
-// Prints an array, or an item by itself, and gives back the place after it, or 0.
-fn print_whole(reply: &[u8]) -> usize {
-    if reply.len() == 0 {
-        return 0;
+        return Step { next: 0, at: 0 };
     }
     if reply[0] == b'*' {
-        return print_array(reply);
+        return add_array(page, reply);
     }
-    let end = print_item(reply, 0);
-    print(b"\n");
-    end
+    let step = add_item(page, 0, reply, 0);
+    Step {
+        next: step.next,
+        at: add(page, step.at, b"\n"),
+    }
+}
+
+// Adds a reply, and says so where it is no RESP2 or bytes are left after it. Gives back how far the page is filled.
+fn add_reply(page: &mut [u8], reply: &[u8]) -> usize {
+    let step = add_whole(page, reply);
+    if step.next == reply.len() {
+        return step.at;
+    }
+    add(page, step.at, b"malformed reply\n")
+}
+
+// Prints a reply as redis-cli does, in one write, and gives back whether all of it was written. A reply of no bytes prints nothing.
+pub fn print_reply(reply: &[u8]) -> bool {
+    if reply.len() == 0 {
+        return true;
+    }
+    let mut page = [0u8; PAGE];
+    let n = add_reply(&mut page, reply);
+    print_page(&page, n)
 }

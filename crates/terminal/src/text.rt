@@ -4,9 +4,9 @@ use libc::STDOUT_FILENO;
 ghost use Prim.Native.Nat.{_≤_};
 ghost use lib.ListN.{length};
 
-// Writes text to standard output.
-pub fn print(text: &[u8]) {
-    io::write_all(STDOUT_FILENO, text);
+// Writes text to standard output, and gives back whether all of it was written.
+pub fn print(text: &[u8]) -> bool {
+    io::write_all(STDOUT_FILENO, text)
 }
 
 // Writes text to standard error.

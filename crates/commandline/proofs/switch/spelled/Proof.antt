@@ -41,13 +41,24 @@ returns-6 c =
 
 returns-7 : tie.Need-returns-7
 returns-7 c =
-    let e6 = c in
+    let e6 = c .before .before .before in
     let e5 = e6 .before .before .before in
     let e4 = e5 .before .before .before in
     let e3 = e4 .before .before .before in
     let e2 = e3 .before .before .before in
     let e1 = e2 .before .before .before in
-    rw (sym (e1 .before .same .ensures) ∙ e1 .if1 .left, sym (e2 .before .same2 .ensures) ∙ e2 .if2 .left, sym (e3 .before .same3 .ensures) ∙ e3 .if3 .left, sym (e4 .before .same4 .ensures) ∙ e4 .if4 .left, sym (e5 .before .same5 .ensures) ∙ e5 .if5 .left, sym (e6 .before .same6 .ensures) ∙ e6 .if6 .left)
+    rw (sym (e1 .before .same .ensures) ∙ e1 .if1 .left, sym (e2 .before .same2 .ensures) ∙ e2 .if2 .left, sym (e3 .before .same3 .ensures) ∙ e3 .if3 .left, sym (e4 .before .same4 .ensures) ∙ e4 .if4 .left, sym (e5 .before .same5 .ensures) ∙ e5 .if5 .left, sym (e6 .before .same6 .ensures) ∙ e6 .if6 .left, sym (c .before .same7 .ensures) ∙ c .if7 .taken)
+
+returns-8 : tie.Need-returns-8
+returns-8 c =
+    let e7 = c in
+    let e6 = e7 .before .before .before in
+    let e5 = e6 .before .before .before in
+    let e4 = e5 .before .before .before in
+    let e3 = e4 .before .before .before in
+    let e2 = e3 .before .before .before in
+    let e1 = e2 .before .before .before in
+    rw (sym (e1 .before .same .ensures) ∙ e1 .if1 .left, sym (e2 .before .same2 .ensures) ∙ e2 .if2 .left, sym (e3 .before .same3 .ensures) ∙ e3 .if3 .left, sym (e4 .before .same4 .ensures) ∙ e4 .if4 .left, sym (e5 .before .same5 .ensures) ∙ e5 .if5 .left, sym (e6 .before .same6 .ensures) ∙ e6 .if6 .left, sym (e7 .before .same7 .ensures) ∙ e7 .if7 .left)
 
 pub spelled-spec : {M : Type 1} → statement M
 spelled-spec =
@@ -71,4 +82,7 @@ spelled-spec =
     (λ c. search needs)
     (λ c κs. search needs)
     returns-6
-    returns-7)
+    (λ c. search needs)
+    (λ c κs. search needs)
+    returns-7
+    returns-8)
