@@ -1,0 +1,56 @@
+/*
+ * The header by itself, as C and as C++: its numbers can be read by #if, and the library links.
+ * Prints the version.
+ */
+#include "../include/pietrunel.h"
+
+#include <stdio.h>
+
+#if PIETRUNEL_RECORD_SIZE != 128 || PIETRUNEL_MAX_RECORDS != 256 || PIETRUNEL_MAX_KEY != 24 \
+    || PIETRUNEL_MAX_VALUE != 64 || PIETRUNEL_MAX_COMMAND != 512 || PIETRUNEL_MAX_WORDS != 16 \
+    || PIETRUNEL_REPLY_ROOM != 128
+#error "a limit"
+#endif
+
+#if PIETRUNEL_MAX_TIME != 1ull << 62 || PIETRUNEL_MAX_VERSION != (1ull << 63) - 1
+#error "a limit of 64 bits"
+#endif
+
+#if PIETRUNEL_AT_STATE != 0 || PIETRUNEL_AT_KEY_LENGTH != 1 || PIETRUNEL_AT_VALUE_LENGTH != 2 \
+    || PIETRUNEL_AT_FLAGS != 4 || PIETRUNEL_AT_VERSION != 8 || PIETRUNEL_AT_EXPIRY != 16 \
+    || PIETRUNEL_AT_KEY != 24 || PIETRUNEL_AT_VALUE != 48
+#error "a place"
+#endif
+
+#if PIETRUNEL_ANSWERED != 0 || PIETRUNEL_DAMAGED_TABLE != 1 || PIETRUNEL_TIME_OUT_OF_RANGE != 2 \
+    || PIETRUNEL_SHORT_REPLY_BUFFER != 3 || PIETRUNEL_MALFORMED_COMMAND != 4 \
+    || PIETRUNEL_UNKNOWN_COMMAND != 5 || PIETRUNEL_WORD_COUNT != 6 || PIETRUNEL_TOO_LONG != 7 \
+    || PIETRUNEL_SYNTAX != 8 || PIETRUNEL_NOT_A_NUMBER != 9 || PIETRUNEL_EXPIRE_TIME != 10 \
+    || PIETRUNEL_MIN_ABOVE_MAX != 11 || PIETRUNEL_STALE_VERSION != 12 \
+    || PIETRUNEL_STORED_NOT_A_NUMBER != 13 || PIETRUNEL_SUM_OUT_OF_RANGE != 14 \
+    || PIETRUNEL_VERSION_AT_TOP != 15 || PIETRUNEL_JOINED_TOO_LONG != 16 \
+    || PIETRUNEL_TABLE_FULL != 17
+#error "a number"
+#endif
+
+/* Constants of 64 bits in an expression, where a cast would be warned of. */
+static const uint64_t limits[2] = {PIETRUNEL_MAX_TIME, PIETRUNEL_MAX_VERSION};
+
+static uint8_t table[2 * PIETRUNEL_RECORD_SIZE];
+static uint8_t reply[PIETRUNEL_REPLY_ROOM];
+static const uint8_t command[] = {'*', '1', '\r', '\n', '$', '0', '\r', '\n', '\r', '\n'};
+
+int main(void)
+{
+    size_t reply_len, start, len;
+    bool in_command;
+    uint32_t last = pietrunel_call(table, sizeof table, limits[0], command, sizeof command,
+                                   reply, sizeof reply, &reply_len);
+    uint32_t late = pietrunel_call(table, sizeof table, limits[1], command, sizeof command,
+                                   reply, sizeof reply, &reply_len);
+    bool shown = pietrunel_current_value(table, sizeof table, 0, command, sizeof command,
+                                         &in_command, &start, &len);
+    printf("%s %d.%d.%d\n", PIETRUNEL_VERSION, PIETRUNEL_VERSION_MAJOR, PIETRUNEL_VERSION_MINOR,
+           PIETRUNEL_VERSION_PATCH);
+    return last == PIETRUNEL_UNKNOWN_COMMAND && late == PIETRUNEL_TIME_OUT_OF_RANGE && !shown ? 0 : 1;
+}
