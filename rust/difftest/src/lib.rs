@@ -18,6 +18,7 @@ pub mod expect;
 pub mod hex;
 pub mod history;
 pub mod layout;
+pub mod printed;
 pub mod resp;
 pub mod rng;
 pub mod settings;

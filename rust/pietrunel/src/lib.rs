@@ -1,7 +1,10 @@
 //! Safe calls of Pietrunel, a small verified store.
 //!
-//! The library keeps nothing: each call is handed a table, a time and one RESP2 command, and
-//! changes at most one record of the table. `include/pietrunel.h` gives the table's layout.
+//! The library keeps nothing: each call borrows a table and takes a time and one command, and
+//! changes at most one record of the table. `include/pietrunel.h` gives the table's layout. This
+//! crate needs no `std` and no heap.
+//!
+//! [`call`] takes and gives the bytes of RESP2 as they are:
 //!
 //! ```
 //! use pietrunel::{call, Answer};
@@ -10,17 +13,28 @@
 //! let mut reply = [0; pietrunel::REPLY_ROOM];
 //! let set = b"*3\r\n$5\r\nEXSET\r\n$3\r\nfoo\r\n$3\r\n100\r\n";
 //! assert_eq!(call(&mut table, 1000, set, &mut reply), Answer::Reply(b"+OK\r\n"));
-//! let get = b"*2\r\n$5\r\nEXGET\r\n$3\r\nfoo\r\n";
-//! assert_eq!(call(&mut table, 1000, get, &mut reply), Answer::Reply(b"*2\r\n$3\r\n100\r\n:1\r\n"));
 //! ```
 
+#![no_std]
 #![deny(unsafe_code)]
 
+#[cfg(test)]
+extern crate std;
+
 mod answer;
+mod error;
 #[allow(unsafe_code)]
 mod ffi;
+mod refusal;
+mod rejection;
+mod reply;
+mod resp;
 
-pub use answer::{Answer, Error, Rejection};
+pub use answer::Answer;
+pub use error::Error;
+pub use refusal::Refusal;
+pub use rejection::Rejection;
+pub use reply::Reply;
 
 /// The bytes of a record.
 pub const RECORD_SIZE: usize = 128;
@@ -28,11 +42,26 @@ pub const RECORD_SIZE: usize = 128;
 /// The most records in a table.
 pub const MAX_RECORDS: usize = 256;
 
-/// The shortest reply buffer that is taken. Every reply fits in it.
-pub const REPLY_ROOM: usize = 128;
+/// The longest key.
+pub const MAX_KEY: usize = 24;
+
+/// The longest value.
+pub const MAX_VALUE: usize = 64;
 
 /// The longest command.
 pub const MAX_COMMAND: usize = 512;
+
+/// The most words of a command.
+pub const MAX_WORDS: usize = 16;
+
+/// The shortest reply buffer that is taken. Every reply fits in it.
+pub const REPLY_ROOM: usize = 128;
+
+/// The latest time and expiry.
+pub const MAX_TIME: u64 = 1 << 62;
+
+/// The highest version.
+pub const MAX_VERSION: u64 = (1 << 63) - 1;
 
 /// Applies one command to a table, at a time in milliseconds.
 pub fn call<'r>(table: &mut [u8], time_ms: u64, command: &[u8], reply: &'r mut [u8]) -> Answer<'r> {
