@@ -99,6 +99,8 @@ const CRLF: u16 = u16::from_le_bytes(*b"\r\n");
 
 /// The words of an array of bulk strings: how many, or 0 where the command is malformed (number 4).
 #[inline(never)]
+// As a range it takes one instruction more.
+#[allow(clippy::manual_range_contains)]
 unsafe fn split(c: *const u8, n: usize, words: &mut [MaybeUninit<Word>; 16]) -> usize {
     if n < 10 || n > 512 {
         return 0;
