@@ -20,9 +20,9 @@ pub enum Reply<'r> {
     Ok,
     /// The key of an EXGET or EXGAE is absent, or NX or XX kept a command from writing.
     Nil,
-    /// EXINCRBY: the sum. EXAPPEND, EXPREPEND, EXSET WITHVERSION: the new version.
-    /// EXSETVER, EXCAD, DEL: 1 if it was done. Else the key is absent: 0 of EXSETVER and DEL, -1 of
-    /// EXCAS and EXCAD; or, 0 of EXCAD, the version differs.
+    /// EXINCRBY: the sum. EXAPPEND, EXPREPEND and EXSET WITHVERSION: the new version. EXSETVER,
+    /// EXCAD and DEL: 1 for done. On an absent key EXSETVER and DEL give 0, EXCAS and EXCAD -1; under
+    /// another version EXCAD gives 0.
     Integer(i64),
     /// EXGET: the record; with WITHFLAGS, and of EXGAE, also its flags.
     Value { value: &'r [u8], version: u64, flags: Option<u32> },
