@@ -22,6 +22,16 @@ extern "C" {
         start: *mut usize,
         len: *mut usize,
     ) -> bool;
+
+    fn pietrunel_begin_command(command: *mut u8, cap: usize, words: usize) -> usize;
+
+    fn pietrunel_add_word(
+        command: *mut u8,
+        cap: usize,
+        len: usize,
+        word: *const u8,
+        word_len: usize,
+    ) -> usize;
 }
 
 /// Where a current value stands: in the command, or else in the table.
@@ -76,4 +86,20 @@ pub fn current_value(table: &[u8], time_ms: u64, command: &[u8]) -> Option<Shown
     }
     assert_eq!(shown, Shown { in_command: false, start: 0, len: 0 }, "nothing is shown");
     None
+}
+
+/// Begins a command of so many words; its length, or 0 where it is refused.
+pub fn begin_command(command: &mut [u8], words: usize) -> usize {
+    // SAFETY: the pointer comes from a slice with the length beside it, borrowed alone. The library
+    // is proved to read and write only there; it keeps no pointer.
+    unsafe { pietrunel_begin_command(command.as_mut_ptr(), command.len(), words) }
+}
+
+/// Adds a word to a command of so many bytes; the new length, or 0 where it is refused.
+pub fn add_word(command: &mut [u8], len: usize, word: &[u8]) -> usize {
+    // SAFETY: each pointer comes from a slice with the length beside it, and the mutable one is
+    // borrowed alone. The library is proved to read and write only there; it keeps no pointer.
+    unsafe {
+        pietrunel_add_word(command.as_mut_ptr(), command.len(), len, word.as_ptr(), word.len())
+    }
 }

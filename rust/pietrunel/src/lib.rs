@@ -4,6 +4,32 @@
 //! changes at most one record of the table. `include/pietrunel.h` gives the table's layout. This
 //! crate needs no `std` and no heap.
 //!
+//! A [`Command`] is made of words, and its [`Reply`] is taken apart. Two tasks read a unit's record
+//! and write it back under the version that they read; the second write is answered stale:
+//!
+//! ```
+//! use pietrunel::{Command, Refusal, Reply};
+//!
+//! let mut table = [0; 4 * pietrunel::RECORD_SIZE];
+//! let mut room = [0; pietrunel::REPLY_ROOM];
+//! let now = 1_700_000_000_000;
+//! let set = Command::new("EXSET").arg("unit-17").arg("3.1V");
+//! assert_eq!(set.call(&mut table, now, &mut room)?, Reply::Ok);
+//!
+//! let get = Command::new("EXGET").arg("unit-17");
+//! let Reply::Value { value, version, .. } = get.call(&mut table, now, &mut room)? else {
+//!     panic!("the record is not there");
+//! };
+//! assert_eq!((value, version), (&b"3.1V"[..], 1));
+//!
+//! let write = |text| Command::new("EXCAS").arg("unit-17").arg(text).number(version).arg("KEEPTTL");
+//! let rested = write("3.1V").call(&mut table, now, &mut room)?;
+//! assert_eq!(rested, Reply::Swapped { version: 2 });
+//! let sagged = write("2.2V").call(&mut table, now, &mut room)?;
+//! assert_eq!(sagged, Reply::Stale { value: b"3.1V", version: 2 });
+//! # Ok::<(), Refusal>(())
+//! ```
+//!
 //! [`call`] takes and gives the bytes of RESP2 as they are:
 //!
 //! ```
@@ -22,6 +48,8 @@
 extern crate std;
 
 mod answer;
+mod command;
+mod decimal;
 mod error;
 #[allow(unsafe_code)]
 mod ffi;
@@ -31,6 +59,7 @@ mod reply;
 mod resp;
 
 pub use answer::Answer;
+pub use command::{Command, CommandTooLong, Encoded};
 pub use error::Error;
 pub use refusal::Refusal;
 pub use rejection::Rejection;
