@@ -12,7 +12,7 @@
  * table may run together.
  *
  * Size on x86-64: a call takes less than 4 KiB of stack (measured: 3.1 KiB, and what memcpy takes),
- * the library less than 24 KiB of code and constants (measured: 20 KiB). bench/footprint measures
+ * the library less than 24 KiB of code and constants (measured: 21 KiB). bench/footprint measures
  * both: the stack by the frames along the deepest chain of calls in the machine code, the rest by
  * `size`.
  *
