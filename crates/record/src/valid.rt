@@ -13,49 +13,62 @@ use crate::VALUE_LENGTH_AT;
 use crate::VERSION_AT;
 use crate::VERSION_LIMIT;
 ghost use mathlib.Core.Path.{_≡_};
-ghost use Prim.Native.Nat.{_-_, _%_, _≤_};
+ghost use Prim.Native.Nat.{_-_, _≤_};
 ghost use lib.ListN.{length};
-ghost use Rattle.model.specs.Table.{recordSize, valueAt, readSlot, isRecord};
+ghost use lib.Dec.{eqb};
+ghost use Rattle.model.specs.Table.{recordSize, keyLimit, valueAt, readSlot, isRecord};
 ghost use Rattle.model.specs.Optional.{isSome};
 ghost use Rattle.model.specs.Bytes.{part};
-ghost use Rattle.slice.specs.Zeros.{zerosFrom, zerosThenOnes};
+ghost use Rattle.slice.specs.Zeros.{zerosFrom};
 ghost use Rattle.record.specs.Forms.{formOf};
 ghost use Rattle.record.specs.Record.{isHead};
 
-// Whether the bytes are a record, empty or in use. The mask is slice's.
-pub fn readable(r: &[u8], form: Form, mask: &[u8; 272]) -> bool
-    requires { ⌜ (length (now r) ≡ recordSize (formOf form)) × (now mask ≡ zerosThenOnes) ⌝ }
+// Whether the bytes are a record, empty or in use.
+pub fn readable(r: &[u8], form: Form) -> bool
+    requires { ⌜ length (now r) ≡ recordSize (formOf form) ⌝ }
     ensures { λ b. ⌜ b ≡ isSome (readSlot (formOf form) (now (r .entry))) ⌝ }
 {
     if r[USE_AT] == 0 {
         return slice::is_zero(r);
     }
-    is_record(r, form, mask)
+    is_record(r, form)
 }
 
-// Whether the bytes are a record in use.
-fn is_record(r: &[u8], form: Form, mask: &[u8; 272]) -> bool
-    requires { ⌜ (length (now r) ≡ recordSize (formOf form)) × (now mask ≡ zerosThenOnes) ⌝ }
+// Whether the bytes are a record in use. What stands after its key and after its value is tested at once.
+pub fn is_record(r: &[u8], form: Form) -> bool
+    requires { ⌜ length (now r) ≡ recordSize (formOf form) ⌝ }
     ensures { λ b. ⌜ b ≡ isRecord (formOf form) (now (r .entry)) ⌝ }
 {
     if !is_head(r, form) {
         return false;
     }
-    if !slice::is_zero_from(&r[KEY_AT..VALUE_AT], r[KEY_LENGTH_AT] as usize, mask) {
-        return false;
-    }
-    is_value_padded(r, r[VALUE_LENGTH_AT] as usize, mask)
+    let after_key = bits_after_key(&r[KEY_AT..VALUE_AT], r[KEY_LENGTH_AT] as usize);
+    let after_value = bits_after_value(r, form, r[VALUE_LENGTH_AT] as usize);
+    after_key | after_value == 0
 }
 
-// Whether the bytes after a value of `n` bytes are zeros. The shorter form has a branch of its own, in which the loop's length is known.
-fn is_value_padded(r: &[u8], n: usize, mask: &[u8; 272]) -> bool
-    requires { ⌜ (n ≤ 128) × (valueAt ≤ length (now r)) × (length (now r) ≤ 192) × (length (now r) % 8 ≡ 0) × (now mask ≡ zerosThenOnes) ⌝ }
-    ensures { λ b. ⌜ b ≡ zerosFrom n (part valueAt (length (now (r .entry)) - valueAt) (now (r .entry))) ⌝ }
+// The bits of the bytes after a key of `n` bytes, in its 24: 0 where they are zeros. A key that ends in the third word is shifted out of it; after
+// any other, eight bytes are taken at a time, from its end or a later place on.
+fn bits_after_key(key: &[u8], n: usize) -> u64
+    requires { ⌜ (1 ≤ n) × (n ≤ keyLimit) × (length (now key) ≡ keyLimit) ⌝ }
+    ensures { λ b. ⌜ eqb b 0 ≡ zerosFrom n (now (key .entry)) ⌝ }
 {
-    if r.len() == 128 {
-        return slice::is_zero_from(&r[VALUE_AT..128], n, mask);
+    let last = slice::get8(key, 16);
+    if 16 < n {
+        return last >> (8 * (n - 17)) >> 8;
     }
-    slice::is_zero_from(&r[VALUE_AT..], n, mask)
+    slice::get8(key, n) | slice::get8(key, slice::max(n, 8)) | last
+}
+
+// The bits of the bytes after a value of `n` bytes: 0 where they are zeros. Each form has a call of its own, in which the loop's length is known.
+fn bits_after_value(r: &[u8], form: Form, n: usize) -> u64
+    requires { ⌜ (n ≤ formOf form .valueLimit) × (length (now r) ≡ recordSize (formOf form)) ⌝ }
+    ensures { λ b. ⌜ eqb b 0 ≡ zerosFrom n (part valueAt (length (now (r .entry)) - valueAt) (now (r .entry))) ⌝ }
+{
+    match form {
+        Form::Of128 => slice::bits_from(&r[VALUE_AT..128], n, 64),
+        Form::Of192 => slice::bits_from(&r[VALUE_AT..192], n, 128),
+    }
 }
 
 // Whether bytes 0 to 23 can be of a record in use.

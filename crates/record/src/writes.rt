@@ -12,9 +12,9 @@ use crate::VALUE_AT;
 use crate::VALUE_LENGTH_AT;
 use crate::VERSION_AT;
 ghost use mathlib.Core.Path.{_≡_};
-ghost use Prim.Native.Nat.{_+_, _≤_};
+ghost use Prim.Native.Nat.{_+_, _-_, _≤_};
 ghost use lib.ListN.{length, take, replicate};
-ghost use Rattle.model.specs.Bytes.{written};
+ghost use Rattle.model.specs.Bytes.{padded, written};
 ghost use Rattle.model.specs.Table.{recordSize, valueAt, flagsAt, keyLimit, recordBytes};
 ghost use Rattle.record.specs.Forms.{formOf};
 ghost use Rattle.record.specs.Attributes.{recordWith, withAttributes, joinedText, joinedRecord, attributeBytes};
@@ -33,7 +33,18 @@ pub fn write(r: &mut [u8], form: Form, key: &[u8], value: &[u8], attributes: Att
         attributes,
     );
     slice::fill(&mut r[KEY_AT..VALUE_AT], key);
-    slice::fill(&mut r[VALUE_AT..], value);
+    write_value(r, form, value);
+}
+
+// Writes a value and zeros over the rest of a record. Each form has a call of its own, in which the length is known.
+fn write_value(r: &mut [u8], form: Form, value: &[u8])
+    requires { ⌜ (length (now r) ≡ recordSize (formOf form)) × (length (now value) ≤ formOf form .valueLimit) ⌝ }
+    ensures { λ _. ⌜ now (r .exit) ≡ written valueAt (padded (recordSize (formOf form) - valueAt) (now (value .entry))) (now (r .entry)) ⌝ }
+{
+    match form {
+        Form::Of128 => slice::fill(&mut r[VALUE_AT..128], value),
+        Form::Of192 => slice::fill(&mut r[VALUE_AT..192], value),
+    }
 }
 
 // Writes bytes 0 to 23 of a record in use.

@@ -37,8 +37,8 @@ impl Line {
         format!("{name:12} {records:7} {library:9.digits$} {rival:9.digits$} {ratio:6.2}{mark}")
     }
 
-    /// Whether the ratio counts for the bars. Keys that collide in the library's
-    /// filter have a bar of their own.
+    /// Whether the ratio counts for the bars. Keys that share a bucket of the
+    /// library's index have a bar of their own.
     fn counts(&self) -> bool {
         self.name != COLLIDING
     }

@@ -17,7 +17,7 @@ pub const NAMES: [&str; 13] = [
 ];
 
 /// A row that stands apart, with a bar of its own: EXGET in a full table of keys
-/// that meet in the library's filter.
+/// that share a bucket of the library's index.
 pub const COLLIDING: &str = "colliding";
 
 /// How many commands a row has, on slots all over the table.
@@ -51,9 +51,10 @@ fn row(name: &'static str, records: usize, key: &dyn Fn(usize) -> String) -> Row
     let mut table: Vec<u8> =
         (0..records).flat_map(|slot| record(&key(slot), &value(name, slot), slot)).collect();
     let last = RECORD * (records - 1);
+    let middle = RECORD * (records / 2);
     match name {
         "EXSET new" => table[last..].fill(0),
-        "damaged" => table[last + RECORD - 1] = 1,
+        "damaged" => table[middle + RECORD - 1] = 1,
         "equal keys" => table.copy_within(..RECORD, last),
         _ => {}
     }

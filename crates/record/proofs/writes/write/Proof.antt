@@ -17,19 +17,26 @@ use borrow.Author.Needs.{needs}
 use Rattle.record.proofs.writes.write.Statement.{statement}
 use Rattle.record.proofs.writes.write.Tie as tie
 
--- h after the head was written, k and v the parts as they come back filled
+-- the head leaves the length
+length-headed : (f : Form) (r : Record) (b h : List ℕ) → length b ≡ recordSize f → h ≡ written 0 (headOf f (length (r .value)) r) b → length h ≡ recordSize f
+length-headed f r b h size e =
+    let fits : 0 + length (headOf f (length (r .value)) r) ≤ length b = rw length-head (omega arith) in
+    ap length e ∙ length-written 0 (headOf f (length (r .value)) r) b fits ∙ size
+
+-- the part of the key comes back filled
+key-filled : (f : Form) (r : Record) (b h k : List ℕ) → length b ≡ recordSize f → length (r .key) ≤ 24 → h ≡ written 0 (headOf f (length (r .value)) r) b
+    → k ≡ padded (length (part 24 24 h)) (r .key) → putMid 24 24 h k ≡ written 24 (padded 24 (r .key)) h
+key-filled f r b h k size hk eh ek = fill-back 24 24 h (r .key) k (omega (arith, length-headed f r b h size eh)) hk ek
+
+-- h after the head was written, k the part of the key as it comes back filled, v after the value was written
 filled : (f : Form) (r : Record) (b h k v : List ℕ) → length b ≡ recordSize f → length (r .key) ≤ 24 → length (r .value) ≤ f .valueLimit
     → h ≡ written 0 (headOf f (length (r .value)) r) b → k ≡ padded (length (part 24 24 h)) (r .key)
-    → v ≡ padded (length (part 48 (length (putMid 24 24 h k) - 48) (putMid 24 24 h k))) (r .value)
-    → putMid 48 (length (putMid 24 24 h k) - 48) (putMid 24 24 h k) v ≡ recordBytes f r
+    → v ≡ written 48 (padded (recordSize f - 48) (r .value)) (putMid 24 24 h k) → v ≡ recordBytes f r
 filled f r b h k v size hk hv eh ek ev =
-    let fits : 0 + length (headOf f (length (r .value)) r) ≤ length b = rw length-head (omega arith) in
-    let nh : length h ≡ recordSize f = ap length eh ∙ length-written 0 (headOf f (length (r .value)) r) b fits ∙ size in
-    let key : putMid 24 24 h k ≡ written 24 (padded 24 (r .key)) h = fill-back 24 24 h (r .key) k (omega arith) hk ek in
-    let nk : length (putMid 24 24 h k) ≡ recordSize f =
-    ap length key ∙ length-written 24 (padded 24 (r .key)) h (omega (arith, length-padded 24 (r .key) hk)) ∙ nh in
-    rest-filled 48 (restSize f) (putMid 24 24 h k) (r .value) v (omega arith) (omega arith) ev
-    ∙ ap (written 48 (padded (restSize f) (r .value))) (key ∙ ap (written 24 (padded 24 (r .key))) eh)
+    let rest : recordSize f - 48 ≡ restSize f = omega arith in
+    ev
+    ∙ ap (λ (n : ℕ). written 48 (padded n (r .value)) (putMid 24 24 h k)) rest
+    ∙ ap (written 48 (padded (restSize f) (r .value))) (key-filled f r b h k size hk eh ek ∙ ap (written 24 (padded 24 (r .key))) eh)
     ∙ record-written f r hk b size hv
 
 -- the record that is written, and the bytes once its head is
@@ -41,14 +48,31 @@ head-told : (c : tie.After-write-head)
     c .write-head .last .0 ≡ written 0 (headOf (formOf (s .args .form)) (length (s .args .value .now)) (given s)) (s .args .r .now)
 head-told c = rw (← c .before .mark .ensures) (c .write-head .ensures)
 
+-- the head and the key leave the length
+write-value-requires : tie.Need-write-value-requires
+write-value-requires c κs =
+    let first = c .before .before .before in
+    let headed = first .before .before .before .before in
+    let s = headed .before .before .before .before .before .before in
+    let f = formOf (s .args .form) in
+    let r = given s in
+    let h = headed .write-head .last .0 in
+    let told = head-told headed in
+    let n = length-headed f r (s .args .r .now) h (s .pre .0) told in (
+      ap length (key-filled f r (s .args .r .now) h (first .fill .last .0) (s .pre .0) (s .pre .1) told (first .fill .ensures))
+          ∙ length-written 24 (padded 24 (r .key)) h (omega (arith, length-padded 24 (r .key) (s .pre .1)))
+          ∙ n,
+      s .pre .2,
+    )
+
 returns : tie.Need-returns
 returns c =
     let second = c .before .before in
-    let first = c .before .before .before .before .before .before in
-    let headed = c .before .before .before .before .before .before .before .before .before .before in
-    let s = c .before .before .before .before .before .before .before .before .before .before .before .before .before .before .before .before in
-    filled (formOf (s .args .form)) (given s) (s .args .r .now) (headed .write-head .last .0) (first .fill .last .0) (second .fill2 .last .0) (s .pre .0) (s .pre .1) (s .pre .2)
-    (head-told headed) (first .fill .ensures) (second .fill2 .ensures)
+    let first = second .before .before .before .before in
+    let headed = first .before .before .before .before in
+    let s = headed .before .before .before .before .before .before in
+    filled (formOf (s .args .form)) (given s) (s .args .r .now) (headed .write-head .last .0) (first .fill .last .0) (second .write-value .last .0) (s .pre .0) (s .pre .1) (s .pre .2)
+    (head-told headed) (first .fill .ensures) (second .write-value .ensures)
 
 pub write-spec : {M : Type 1} → statement M
 write-spec =
@@ -57,4 +81,4 @@ write-spec =
     (λ c. search needs)
     (λ c. omega (arith, lawful-form (c .before .before .before .before .args .form) .most))
     (λ c κs. search needs) (λ c κs. search needs) (λ c. search needs) (λ c. search needs) (λ c. search needs) (λ c κs. search needs)
-    (λ c. search needs) (λ c. search needs) (λ c. search needs) (λ c κs. search needs) (λ c. search needs) returns)
+    write-value-requires (λ c. search needs) returns)
