@@ -65,7 +65,7 @@ begin-some n s e =
     let r = in-range n (q .0) in
     (r .0, r .1, some-eq (q .1))
 
-addWord-some : (s w t : List ℕ) → addWord s w ≡ some t → (s ++ bulkBytes w ≡ t) × (length t ≤ commandLimit)
+pub addWord-some : (s w t : List ℕ) → addWord s w ≡ some t → (s ++ bulkBytes w ≡ t) × (length t ≤ commandLimit)
 unfolding addWord
 addWord-some s w t e =
     came (wordsLeft s) (λ n. cond (leb 1 n) (upTo commandLimit (s ++ bulkBytes w)) none) e λ n p e.
@@ -96,9 +96,9 @@ build-decode ws s e = let d = build-encoded ws s e in ap decode (d .bytes) ∙ d
 
 -- ---- how many words are left
 
-none-there : (n : ℕ) → bulksLeft n [] ≡ some n
-none-there zero = refl
-none-there (suc n) = refl
+pub bulksLeft-nil : (n : ℕ) → bulksLeft n [] ≡ some n
+bulksLeft-nil zero = refl
+bulksLeft-nil (suc n) = refl
 
 -- a bulk string in front
 bulk-there : (n : ℕ) (w s : List ℕ) → length w < 10 ^ 20 → bulksLeft (suc n) (bulkBytes w ++ s) ≡ bulksLeft n s
@@ -112,7 +112,7 @@ bulksLeft-add zero m [] w e h k = let z : zero ≡ suc m = some-eq e in absurd (
 bulksLeft-add zero m (c ∷ s) w e h k = none-some (suc m) e
 bulksLeft-add (suc n) m [] w e h k =
     let z : suc n ≡ suc m = some-eq e in
-    ap (bulksLeft (suc n)) (sym (append-nil (bulkBytes w))) ∙ (bulk-there n w [] k ∙ (none-there n ∙ ap {B = Option ℕ} some (omega arith)))
+    ap (bulksLeft (suc n)) (sym (append-nil (bulkBytes w))) ∙ (bulk-there n w [] k ∙ (bulksLeft-nil n ∙ ap {B = Option ℕ} some (omega arith)))
 bulksLeft-add (suc n) m (c ∷ s) w e h k =
     came (readBulk (c ∷ s)) (λ v. bulksLeft n (v .rest)) e λ v p e.
     let there : c ∷ s ≡ bulkBytes (v .value) ++ v .rest = bulkBytes-readBulk (c ∷ s) v p h in
@@ -157,7 +157,7 @@ wordsLeft-add s w m e h =
 
 -- ---- words that can be sent are built
 
-addWord-adds : (s w : List ℕ) (m : ℕ) → wordsLeft s ≡ some (suc m) → length (s ++ bulkBytes w) ≤ commandLimit → addWord s w ≡ some (s ++ bulkBytes w)
+pub addWord-adds : (s w : List ℕ) (m : ℕ) → wordsLeft s ≡ some (suc m) → length (s ++ bulkBytes w) ≤ commandLimit → addWord s w ≡ some (s ++ bulkBytes w)
 unfolding addWord
 addWord-adds s w m e h = rw (e, le-leb 1 (suc m) (omega arith), le-leb (length (s ++ bulkBytes w)) commandLimit h)
 
@@ -174,7 +174,7 @@ pub build-encode : (ws : List (List ℕ)) → Sendable ws → build ws ≡ some 
 unfolding begin encode
 build-encode ws h =
     let first : wordsLeft (line arrayMark (length ws)) ≡ some (length ws) =
-    ap wordsLeft (sym (append-nil (line arrayMark (length ws)))) ∙ (wordsLeft-line (length ws) [] (h .some-words) (h .few-words) ∙ none-there (length ws)) in
+    ap wordsLeft (sym (append-nil (line arrayMark (length ws)))) ∙ (wordsLeft-line (length ws) [] (h .some-words) (h .few-words) ∙ bulksLeft-nil (length ws)) in
     rw (le-leb 1 (length ws) (h .some-words), le-leb (length ws) wordLimit (h .few-words)) (addWords-adds ws (line arrayMark (length ws)) first (h .short))
 
 -- ---- a command that lacks a word

@@ -1,0 +1,3 @@
+-- Laws of the words that are left to add, at a place, and of a command that is placed in a buffer.
+pub mod Left
+pub mod Placing
