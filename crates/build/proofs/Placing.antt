@@ -11,8 +11,7 @@ use lib.Seq.{length-take-le}
 use lib.Dec.{leb}
 use borrow.Author.Tests.{le-leb, lt-leb, leb-true, leb-false}
 use Rattle.model.specs.Optional.{_>>=_}
-use Rattle.model.specs.Number.{natText}
-use Rattle.model.specs.Resp.{arrayMark, commandLimit, line, bulkBytes}
+use Rattle.model.specs.Resp.{arrayMark, commandLimit, wordLimit, line, bulkBytes}
 use Rattle.model.specs.Build.{upTo, begin, wordsLeft, addWord, placed, front, beginIn, addWordIn}
 use Rattle.model.proofs.Basics.{and-left, and-right}
 use Rattle.model.proofs.Build.{addWord-some, addWord-adds}
@@ -42,19 +41,17 @@ module _ (b : List ℕ) (n : ℕ) where
   unfolding beginIn begin
   begin-many h = rw (le-leb 1 n (omega arith), lt-leb n 16 h)
 
-  module _ (lo : 1 ≤ n) (hi : n ≤ 16) where
-    begins : beginIn b n ≡ placed b (upTo (length b) (line arrayMark n))
-    unfolding beginIn begin
-    begins = rw (le-leb 1 n lo, le-leb n 16 hi)
+  pub begin-short : length b < length (line arrayMark n) → beginIn b n ≡ (b, 0)
+  unfolding beginIn begin
+  begin-short h = go (leb 1 n && leb n wordLimit)
+    where
+      go : (t : Bool) → placed b (cond t (some (line arrayMark n)) none >>= upTo (length b)) ≡ (b, 0)
+      go true = placed-long b (line arrayMark n) h
+      go false = refl
 
-    pub line-length : length (line arrayMark n) ≡ 3 + length (natText n)
-    line-length = simp length-append (omega arith)
-
-    pub begin-short : length b < 3 + length (natText n) → beginIn b n ≡ (b, 0)
-    begin-short h = begins ∙ placed-long b (line arrayMark n) (omega (arith, line-length))
-
-    pub begin-wrote : {after : List ℕ} {r : ℕ} → 3 + length (natText n) ≤ length b → Wrote 0 (line arrayMark n) b after r → beginIn b n ≡ (after, r)
-    begin-wrote h p = begins ∙ placed-wrote b (line arrayMark n) (omega (arith, line-length)) p
+  pub begin-wrote : {after : List ℕ} {r : ℕ} → 1 ≤ n → n ≤ 16 → length (line arrayMark n) ≤ length b → Wrote 0 (line arrayMark n) b after r → beginIn b n ≡ (after, r)
+  unfolding beginIn begin
+  begin-wrote lo hi h p = rw (le-leb 1 n lo, le-leb n 16 hi) (placed-wrote b (line arrayMark n) h p)
 
 -- ---- added to
 

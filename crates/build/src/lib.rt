@@ -49,16 +49,23 @@ fn words_left(s: &[u8]) -> usize
     bulks_left(s, next, value)
 }
 
+// The length of a word's bulk string.
+fn bulk_len(word: &[u8]) -> usize
+    requires { ⌜ length (now word) ≤ commandLimit ⌝ }
+    ensures { λ r. ⌜ r ≡ length (bulkBytes (now (word .entry))) ⌝ }
+{
+    number::count_digits(word.len() as u64) + word.len() + 5
+}
+
 // Whether a word's bulk string that begins at place `len` ends within the limit of a command and within a buffer of `cap` bytes.
 fn word_fits(cap: usize, len: usize, word: &[u8]) -> bool
     requires { ⌜ len ≤ commandLimit ⌝ }
     ensures { λ r. ⌜ r ≡ leb (len + length (bulkBytes (now (word .entry)))) commandLimit && leb (len + length (bulkBytes (now (word .entry)))) cap ⌝ }
 {
-    let n = word.len();
-    if 512 < n {
+    if 512 < word.len() {
         return false;
     }
-    let end = len + (number::count_digits(n as u64) + n + 5);
+    let end = len + bulk_len(word);
     (end <= 512) & (end <= cap)
 }
 
@@ -89,7 +96,7 @@ pub fn add_word(buffer: &mut [u8], len: usize, word: &[u8]) -> usize
     if 512 < len {
         return 0;
     }
-    if words_left(&buffer[..len]) == 0 {
+    if words_left(&buffer[..len]) < 1 {
         return 0;
     }
     if word_fits(buffer.len(), len, word) {

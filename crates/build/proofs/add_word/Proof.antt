@@ -27,11 +27,11 @@ returns-3 c =
     let l = c .before in
     let e = l .before .before .before in
     let s = e .before .before .before in
-    add-whole (s .args .buffer .now) (s .args .word .now) (s .args .len) (e .if1 .left) (sym (l .words-left .ensures) ∙ c .if3 .taken)
+    add-whole (s .args .buffer .now) (s .args .word .now) (s .args .len) (e .if1 .left) (omega (arith, l .words-left .ensures, c .if3 .taken))
 
 -- a word is lacking
 lacks : (c : tie.Else3) → let a = c .before .before .before .before .before .before .before .args in count (wordsLeft (take (a .len) (a .buffer .now))) ≡ 0 → ⊥
-lacks c e = c .if3 .left (c .before .words-left .ensures ∙ e)
+lacks c e = omega (arith, c .if3 .left, c .before .words-left .ensures)
 
 put-bulk-requires : tie.Need-put-bulk-requires
 put-bulk-requires c κs =

@@ -1,5 +1,6 @@
 -- `build::words_left` meets its contract: the first line is read and its count tested, and the bulk strings after it are counted.
 use mathlib.Core.Path.{sym, ap, _∙_}
+use native.Mathlib.Omega.{arith}
 use borrow.Author.Needs.{needs}
 use Rattle.model.specs.Resp.{arrayMark}
 use Rattle.resp.proofs.Lines.{LineAt, line-at}
@@ -15,10 +16,10 @@ returns : tie.Need-returns
 returns c = sym (ap count (left-unread _ (sym (c .before .before .read-line .ensures) ∙ c .enum-told .given .1)))
 
 returns-2 : tie.Need-returns-2
-returns-2 c = sym (ap count (left-many _ (first (c .before .before)) (c .if1 .taken)))
+returns-2 c = sym (ap count (left-many _ (first (c .before .before)) (omega arith)))
 
 returns-3 : tie.Need-returns-3
-returns-3 c = c .bulks-left .ensures ∙ sym (left-few _ (first (c .before .before .before)) (c .before .if1 .left))
+returns-3 c = c .bulks-left .ensures ∙ sym (left-few _ (first (c .before .before .before)) (omega arith))
 
 pub words-left-spec : {M : Type 1} → statement M
 words-left-spec =
