@@ -9,6 +9,7 @@
 #include "../include/pietrunel.h"
 
 #include <stdio.h>
+#include <stdlib.h>
 #include <string.h>
 
 #define RECORDS 4
@@ -18,19 +19,23 @@ static uint8_t table[RECORDS * PIETRUNEL_RECORD_SIZE];
 static uint8_t reply[PIETRUNEL_REPLY_ROOM];
 static size_t reply_len;
 
-/* Encodes words, separated by single blanks, as a RESP2 array of bulk strings. */
-static size_t encode(char *out, size_t room, const char *line)
+/* Builds the command of the words of a line, between single blanks; without one the program ends. */
+static size_t build(uint8_t *command, size_t cap, const char *line)
 {
     size_t words = 1;
     for (const char *c = line; *c != '\0'; c++)
         words += *c == ' ';
-    size_t at = (size_t)snprintf(out, room, "*%zu\r\n", words);
-    while (words-- > 0) {
-        size_t len = strcspn(line, " ");
-        at += (size_t)snprintf(out + at, room - at, "$%zu\r\n%.*s\r\n", len, (int)len, line);
-        line += len + (line[len] == ' ');
+    size_t len = pietrunel_begin_command(command, cap, words);
+    for (const char *word = line; words > 0; words--) {
+        size_t word_len = strcspn(word, " ");
+        len = pietrunel_add_word(command, cap, len, (const uint8_t *)word, word_len);
+        word += word_len + 1;
     }
-    return at;
+    if (len == 0) {
+        fprintf(stderr, "bridge: too many words or bytes for a command: %s\n", line);
+        exit(1);
+    }
+    return len;
 }
 
 /* Prints bytes on one line, CR LF as a bar. */
@@ -48,9 +53,9 @@ static void print_line(const uint8_t *bytes, size_t len)
 /* Sends a command for a task and prints what is answered. */
 static void send(const char *task, const char *line)
 {
-    char command[PIETRUNEL_MAX_COMMAND];
-    size_t len = encode(command, sizeof command, line);
-    uint32_t number = pietrunel_call(table, sizeof table, NOW, (const uint8_t *)command, len,
+    uint8_t command[PIETRUNEL_MAX_COMMAND];
+    size_t len = build(command, sizeof command, line);
+    uint32_t number = pietrunel_call(table, sizeof table, NOW, command, len,
                                      reply, sizeof reply, &reply_len);
     printf("%-6s %-34s %2u  ", task, line, (unsigned)number);
     print_line(reply, reply_len);

@@ -133,6 +133,33 @@ bool pietrunel_current_value(const uint8_t *table, size_t table_len, uint64_t ti
                              const uint8_t *command, size_t command_len,
                              bool *in_command, size_t *start, size_t *len);
 
+/*
+ * Begins a command of 1 to 16 words at the front of a buffer of cap bytes, and gives back its length,
+ * 4 or 5: the line "*words CR LF". Then pietrunel_add_word adds the words, one call each:
+ *
+ *   size_t n = pietrunel_begin_command(command, sizeof command, 2);
+ *   n = pietrunel_add_word(command, sizeof command, n, (const uint8_t *)"EXGET", 5);
+ *   n = pietrunel_add_word(command, sizeof command, n, (const uint8_t *)"foo", 3);
+ *
+ * Gives back 0 and changes nothing for any other number of words, and where cap is too small.
+ */
+size_t pietrunel_begin_command(uint8_t *command, size_t cap, size_t words);
+
+/*
+ * Adds a word, any word_len bytes, to the command that the first len bytes of a buffer of cap bytes
+ * begin, and gives back the length then. The bytes before and behind the word's stay as they are.
+ * Once every word is added the command is whole, and it has just the words that were given.
+ *
+ * Gives back 0 and changes nothing where the first len bytes are no command that lacks a word, and
+ * where the length would be above cap or above 512. So a refusal can be tested once, at the end: with
+ * len 0 every further word is refused, and pietrunel_call refuses a command of 0 bytes as malformed,
+ * and also one that lacks a word.
+ *
+ * The pointers must not be null, also where a length is 0; the buffer must not overlap the word.
+ */
+size_t pietrunel_add_word(uint8_t *command, size_t cap, size_t len,
+                          const uint8_t *word, size_t word_len);
+
 #ifdef __cplusplus
 }
 #endif

@@ -164,7 +164,7 @@ pub fn add(a: i64, b: i64) -> Sum
 }
 
 // How many digits the text of `n` has.
-fn count_digits(n: u64) -> usize
+pub fn count_digits(n: u64) -> usize
     ensures { λ r. ⌜ r ≡ length (natText n) ⌝ }
 {
     let mut k = 1;

@@ -1,6 +1,8 @@
 // The library's functions for C: a slice crosses as a pointer and a length.
 use store::Shown;
+ghost use mathlib.Core.Path.{_≡_};
 ghost use Rattle.model.specs.Table.{form128};
+ghost use Rattle.model.specs.Build.{beginIn, addWordIn};
 ghost use Rattle.model.specs.Call.{call};
 ghost use Rattle.model.specs.CurrentValue.{currentValue};
 ghost use Rattle.store.specs.Called.{Called};
@@ -60,4 +62,20 @@ pub extern "C" fn pietrunel_current_value(
             true
         }
     }
+}
+
+// Begins a command of 1 to 16 words at the front of a buffer: its length; where it is refused, 0, and nothing is changed.
+#[no_mangle]
+pub extern "C" fn pietrunel_begin_command(command: &mut [u8], words: usize) -> usize
+    ensures { λ r. ⌜ beginIn (now (command .entry)) words ≡ (now (command .exit), r) ⌝ }
+{
+    build::begin_command(command, words)
+}
+
+// Adds a word to the command that the first `len` bytes of a buffer begin: its length then; where it is refused, 0, and nothing is changed.
+#[no_mangle]
+pub extern "C" fn pietrunel_add_word(command: &mut [u8], len: usize, word: &[u8]) -> usize
+    ensures { λ r. ⌜ addWordIn (now (command .entry)) len (now (word .entry)) ≡ (now (command .exit), r) ⌝ }
+{
+    build::add_word(command, len, word)
 }

@@ -139,7 +139,7 @@ pub fn read_line(s: &[u8], at: usize, mark: u8) -> Line
 }
 
 // The bulk string at place `at`: where its bytes begin and end, and the place after it.
-fn read_bulk(s: &[u8], at: usize) -> Word
+pub fn read_bulk(s: &[u8], at: usize) -> Word
     requires { ⌜ length (now s) ≤ commandLimit ⌝ }
     ensures { λ w. ⌜ w ≡ wordFrom (now (s .entry)) at ⌝ }
 {
