@@ -34,7 +34,7 @@ pub fn readable(r: &[u8], form: Form, mask: &[u8; 272]) -> bool
 }
 
 // Whether the bytes are a record in use.
-fn is_record(r: &[u8], form: Form, mask: &[u8; 272]) -> bool
+pub fn is_record(r: &[u8], form: Form, mask: &[u8; 272]) -> bool
     requires { ⌜ (length (now r) ≡ recordSize (formOf form)) × (now mask ≡ zerosThenOnes) ⌝ }
     ensures { λ b. ⌜ b ≡ isRecord (formOf form) (now (r .entry)) ⌝ }
 {
