@@ -77,19 +77,27 @@ module _ (f : Form) (t : List ℕ) (i : ℕ) (h : i < countOf f t) {heads next :
         go true false q = getD-set-other heads bucket b i 0 (λ z. eqb-false bucket b q (sym z)) ∙ x .head b
         go false same q = x .head b
 
+    -- the slots after it are held by the heads as they were, and by the links as they are
+    pub indexed-after : Indexed f t (i + 1) heads next'
+    indexed-after =
+        let links = ap length (e .link) ∙ length-set next i first in
+        record {
+          some = x .some;
+          room = omega (arith, links, x .room);
+          head = x .head;
+          links = λ j low high used. ap (λ (l : List ℕ). getD l j 0) (e .link) ∙ getD-set-other next i j first 0 (λ z. omega arith) ∙ x .links j low high used;
+        }
+
     links-are : Linked f t (length heads) i next'
     links-are =
-        links-from f t (length heads) i next'
-        (λ j low high used. ap (λ (l : List ℕ). getD l j 0) (e .link) ∙ getD-set-other next i j first 0 (λ z. omega arith) ∙ x .links j low high used)
+        links-from f t (length heads) i next' (indexed-after .links)
         (λ used. ap (λ (l : List ℕ). getD l i 0) (e .link) ∙ getD-set-same next i first 0 (omega (arith, x .room)) ∙ e .was ∙ x .head bucket)
 
     -- a slot that is entered
     pub indexed-used : Indexed f t i heads' next'
-    indexed-used =
-        let links = ap length (e .link) ∙ length-set next i first in
-        record {
-          some = rw same-heads (x .some);
-          room = omega (arith, links, x .room);
-          head = λ b. head-is b ∙ ap (λ (m : ℕ). entryFrom (inBucket f t m b) (countOf f t) i) (sym same-heads);
-          links = subst (λ (m : ℕ). Linked f t m i next') (sym same-heads) links-are;
-        }
+    indexed-used = record {
+      some = rw same-heads (x .some);
+      room = indexed-after .room;
+      head = λ b. head-is b ∙ ap (λ (m : ℕ). entryFrom (inBucket f t m b) (countOf f t) i) (sym same-heads);
+      links = subst (λ (m : ℕ). Linked f t m i next') (sym same-heads) links-are;
+    }
