@@ -1,24 +1,29 @@
-// The two halves of a table's check: its length and each record, and that no two keys are equal.
-mod filter;
-
+// The check of a table: its length, each record, and that no two keys are equal. It makes the index by which a key is then found.
 use record::Form;
 use record::KEY_AT;
 use record::VALUE_AT;
-use table::Found;
 ghost use mathlib.Core.Path.{_≡_};
-ghost use Prim.Native.Nat.{_≤_};
+ghost use Prim.Native.Nat.{_≤_, _<_};
 ghost use lib.ListN.{length};
-ghost use Rattle.model.specs.Table.{readTable, distinct};
-ghost use Rattle.model.specs.Optional.{isSome};
+ghost use Rattle.model.specs.Table.{recordSize};
 ghost use Rattle.record.specs.Forms.{formOf};
-ghost use Rattle.table.specs.Slots.{Reads, slotsOf};
+ghost use Rattle.integrity.specs.Check.{Fresh, Checks, Tests};
 
 // The most records of a table.
 const TABLE_LIMIT: usize = 256;
 
-// Whether the table has whole records, 1 to 256 of them, and each reads.
-pub fn records_ok(table: &[u8], form: Form) -> bool
-    ensures { λ ok. ⌜ ok ≡ isSome (readTable (formOf form) (now (table .entry))) ⌝ }
+// What the test of a record comes to: no slot entered before it shares its bucket, the chain of its bucket began with a slot, or it is no record.
+pub enum Entered {
+    Alone,
+    After(usize),
+    Damaged,
+}
+
+// Whether the table keeps all rules. Slots are passed from the last one down; each is tested, entered, and its key compared with those of its
+// bucket that were passed.
+pub fn check(table: &[u8], form: Form, heads: &mut [u8], next: &mut [u8]) -> bool
+    requires { ⌜ Fresh (formOf form) (now table) (now heads) (now next) ⌝ }
+    ensures { λ ok. ⌜ Checks (formOf form) (now (table .entry)) (now (heads .exit)) (now (next .exit)) ok ⌝ }
 {
     let n = table::count(table, form);
     if n * record::size(form) != table.len() {
@@ -30,51 +35,43 @@ pub fn records_ok(table: &[u8], form: Form) -> bool
     if TABLE_LIMIT < n {
         return false;
     }
-    let mut i = 0;
-    while i < n {
-        if !record::readable(table::slot(table, form, i), form) {
-            return false;
-        }
-        i += 1;
-    }
-    true
-}
-
-// Whether no two records in use have equal keys. The filter is as large as the table asks, since it costs time to make.
-pub fn keys_ok(table: &[u8], form: Form) -> bool
-    requires { ⌜ Reads (formOf form) (now table) ⌝ }
-    ensures { λ ok. ⌜ ok ≡ distinct (slotsOf (formOf form) (now (table .entry))) ⌝ }
-{
-    let n = table::count(table, form);
-    if n < 2 {
-        return true;
-    }
-    if n <= 16 {
-        let mut seen = [0; 128];
-        return keys_differ(table, form, &mut seen);
-    }
-    let mut seen = [0; 2048];
-    keys_differ(table, form, &mut seen)
-}
-
-// The same by a filter. Slots are passed from the last one down, and only a key that the filter may hold is compared with those passed.
-fn keys_differ(table: &[u8], form: Form, seen: &mut [u8]) -> bool
-    requires { ⌜ Reads (formOf form) (now table) ⌝ }
-    requires { ⌜ 1 ≤ length (now seen) ⌝ }
-    ensures { λ ok. ⌜ ok ≡ distinct (slotsOf (formOf form) (now (table .entry))) ⌝ }
-{
-    let mut next = table::count(table, form);
-    while 0 < next {
-        let i = next - 1;
+    let mut above = n;
+    while 0 < above {
+        let i = above - 1;
         let r = table::slot(table, form, i);
-        if record::in_use(r) {
-            if filter::add(seen, filter::spread(&r[KEY_AT..VALUE_AT])) {
-                let Found::Nothing = table::find_from(table, form, next, record::key(r)) else {
+        match enter(r, form, i, heads, next) {
+            Entered::Alone => {}
+            Entered::After(first) => {
+                if table::search_chain(table, form, next, first, record::key(r)) != 0 {
                     return false;
-                };
+                }
+            }
+            Entered::Damaged => {
+                return false;
             }
         }
-        next = i;
+        above = i;
     }
     true
+}
+
+// Tests the bytes of a slot, and enters it if they are a record in use.
+fn enter(r: &[u8], form: Form, slot: usize, heads: &mut [u8], next: &mut [u8]) -> Entered
+    requires { ⌜ (length (now r) ≡ recordSize (formOf form)) × (slot < 256) × (1 ≤ length (now heads)) × (slot < length (now next)) ⌝ }
+    ensures { λ e. ⌜ Tests (formOf form) slot (now (r .entry)) (now (heads .entry)) (now (next .entry)) (now (heads .exit)) (now (next .exit)) e ⌝ }
+{
+    if !record::in_use(r) {
+        if slice::is_zero(r) {
+            return Entered::Alone;
+        }
+        return Entered::Damaged;
+    }
+    if !record::is_record(r, form) {
+        return Entered::Damaged;
+    }
+    let first = table::enter(heads, next, slot, &r[KEY_AT..VALUE_AT]);
+    if first == 0 {
+        return Entered::Alone;
+    }
+    Entered::After(first)
 }

@@ -7,7 +7,7 @@ use mathlib.Core.Option.{Option, none, some}
 use Prim.Native.Nat.{ℕ, zero, suc}
 use native.Mathlib.Omega.{arith}
 use lib.ListN.{getD, replicate}
-use borrow.Author.Tests.{eqb-true, eqb-false}
+use borrow.Author.Tests.{eqb-true, eqb-false, ne-eqb}
 use Rattle.model.specs.Table.{Form, Slot, empty, used, recordSize, recordBytes, fields, lawful, isRecord, isEmptyRecord, readSlot, isEmpty}
 use Rattle.model.specs.Optional.{isSome}
 use Rattle.model.proofs.Records.{WasRead, lawful-in-range, in-range-lawful, slotBytes-readSlot, in-use-readSlot}
@@ -52,14 +52,20 @@ module _ (f : Form) where
       by false true = refl
       by false false = refl
 
+  pub read-unused : (b : List ℕ) → isUsed b ≡ false → isSome (readSlot f b) ≡ isEmptyRecord f b
+  read-unused b n =
+      let other : isRecord f b ≡ false = not-eq-not .0 (λ e. eqb-false (getD b 0 0) 1 n (first-used b (isRecord-true b e))) in
+      read-either b ∙ rw other (or-false (isEmptyRecord f b))
+
   pub readable-zero : (b : List ℕ) → getD b 0 0 ≡ 0 → isSome (readSlot f b) ≡ isEmptyRecord f b
-  readable-zero b z =
-      let unused : isRecord f b ≡ false = not-eq-not .0 (λ e. omega (arith, first-used b (isRecord-true b e))) in
-      read-either b ∙ rw unused (or-false (isEmptyRecord f b))
+  readable-zero b z = read-unused b (ne-eqb (getD b 0 0) 1 (λ e. omega arith))
 
   pub readable-other : (b : List ℕ) → (getD b 0 0 ≡ 0 → ⊥) → isSome (readSlot f b) ≡ isRecord f b
   readable-other b n =
       read-either b ∙ rw (ne-same b (replicate (recordSize f) 0) (λ e. n (ap (λ (l : List ℕ). getD l 0 0) e ∙ zeros-first (recordSize f))))
+
+  pub read-used : (b : List ℕ) → isUsed b ≡ true → isSome (readSlot f b) ≡ isRecord f b
+  read-used b u = readable-other b (λ z. omega (arith, eqb-true (getD b 0 0) 1 u))
 
   -- ---- the slot of readable bytes, by byte 0
 

@@ -6,9 +6,9 @@ use mathlib.Core.List.{List, [], _∷_}
 use mathlib.Core.Option.{Option·getD, some}
 use lib.ListN.{length, getD}
 use lib.Dec.{leb, ltb, eqb}
-use Rattle.model.specs.Bytes.{same, all, part, padded, fromLittleEndian}
+use Rattle.model.specs.Bytes.{same, all}
 use Rattle.model.specs.Number.{versionLimit}
-use Rattle.model.specs.Table.{Form, Record, Slot, empty, used, recordSize, recordBytes, readSlot, fields, keyLimit, timeLimit, useAt, keyLengthAt, valueLengthAt, keyAt, valueAt, tailSize}
+use Rattle.model.specs.Table.{Form, Record, Slot, empty, used, recordSize, recordBytes, readSlot, fields, keyLimit, timeLimit, useAt, keyLengthAt, valueLengthAt, valueAt, tailSize}
 use Rattle.model.specs.Optional.{isSome}
 use Rattle.record.specs.Forms.{Lawful}
 use Rattle.record.specs.declared.Attributes.{Attributes}
@@ -74,17 +74,3 @@ headRules f b =
 -- whether those bytes can be of a record in use
 unfoldable pub isHead : Form → List ℕ → Bool
 isHead f b = all (headRules f b)
-
--- the number in the 8 bytes at a place
-abbrev pub word : (at : ℕ) → List ℕ → ℕ
-word at s = fromLittleEndian (part at 8 s)
-
--- whether the 24 bytes of a record's key, with the zeros after it, have the word w at a place
-unfoldable pub hasWord : (at w : ℕ) → List ℕ → Bool
-hasWord at w r = eqb (word at (part keyAt keyLimit r)) w
-
--- a key of at most 24 bytes has, with the zeros after it, the word w at a place
-pub record WordOf (k : List ℕ) (at w : ℕ) : Type 0 where
-  pub short : length k ≤ keyLimit
-  pub within : at + 8 ≤ keyLimit
-  pub is : w ≡ word at (padded keyLimit k)

@@ -10,12 +10,12 @@ use crate::VALUE_AT;
 use crate::VALUE_LENGTH_AT;
 use crate::VERSION_AT;
 ghost use mathlib.Core.Path.{_≡_};
-ghost use Prim.Native.Nat.{_+_, _≤_};
+ghost use Prim.Native.Nat.{_≤_};
 ghost use lib.ListN.{length};
-ghost use Rattle.model.specs.Table.{keyLimit, valueAt, fields};
+ghost use Rattle.model.specs.Table.{valueAt, fields};
 ghost use Rattle.model.specs.Search.{live};
 ghost use Rattle.record.specs.Attributes.{attributesOf};
-ghost use Rattle.record.specs.Record.{InUse, IsSlot, isUsed, hasKey, hasWord};
+ghost use Rattle.record.specs.Record.{InUse, IsSlot, isUsed, hasKey};
 
 // Whether a record is in use.
 pub fn in_use(r: &[u8]) -> bool
@@ -52,15 +52,6 @@ pub fn has_key(r: &[u8], key: &[u8]) -> bool
         return false;
     }
     slice::same(key, crate::key(r))
-}
-
-// Whether the key of a record, with the zeros after it, has a word at a place.
-pub fn has_word(r: &[u8], at: usize, word: u64) -> bool
-    requires { ⌜ (valueAt ≤ length (now r)) × (at + 8 ≤ keyLimit) ⌝ }
-    ensures { λ t. ⌜ t ≡ hasWord at word (now (r .entry)) ⌝ }
-{
-    let key = &r[KEY_AT..VALUE_AT];
-    slice::get8(key, at) == word
 }
 
 // The flags.

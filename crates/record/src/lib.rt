@@ -7,7 +7,6 @@ pub use fields::attributes_of;
 pub use fields::expiry;
 pub use fields::flags;
 pub use fields::has_key;
-pub use fields::has_word;
 pub use fields::in_use;
 pub use fields::is_live;
 pub use fields::key;

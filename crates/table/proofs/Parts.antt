@@ -3,15 +3,13 @@
 use Prim.Native.Nat.{ℕ, _+_, _-_, _*_, _≤_, _<_}
 use native.Mathlib.Omega.{arith}
 use mathlib.Core.Path.{_≡_, refl, sym, ap, subst, _∙_}
-use mathlib.Core.Bool.{Bool, true, false, not}
-use lib.Dec.{ltb}
-use borrow.Author.Tests.{ltb-true, ltb-false}
+use mathlib.Core.Bool.{false, not}
 use mathlib.Core.List.{List}
 use mathlib.Core.Option.{Option, some, Option·getD}
 use lib.ListN.{length, getD, getElem?, take, drop, replicate, replicate-append-replicate}
 use borrow.Rule.Slice.PartMut.{putMid}
 use Rattle.model.specs.Bytes.{part, padded, written, fromLittleEndian}
-use Rattle.model.specs.Table.{Form, Slot, Record, empty, used, isEmpty, fields, recordSize, recordBytes, slotBytes, recordAt, holds}
+use Rattle.model.specs.Table.{Form, Slot, Record, empty, used, isEmpty, fields, recordSize, recordBytes, slotBytes, recordAt}
 use Rattle.model.specs.Search.{isExpired, live, ahead}
 use Rattle.model.specs.Optional.{isSome}
 use Rattle.model.proofs.Basics.{at-getD, at-length}
@@ -19,10 +17,9 @@ use Rattle.model.proofs.Records.{InRange, Kept, in-use-readSlot}
 use Rattle.model.proofs.Tables.{all-at, tableBytes-set}
 use Rattle.slice.proofs.Written.{length-part, part-is, part-back, drop-replicate}
 use Rattle.record.specs.Forms.{Lawful}
-use Rattle.record.specs.Record.{asSlot, Readable, InUseOf, InUse, IsSlot, Fits, Changed, WordOf, hasWord}
+use Rattle.record.specs.Record.{asSlot, Readable, InUseOf, InUse, IsSlot, Fits, Changed}
 use Rattle.record.proofs.Checking.{in-use-key}
-use Rattle.record.proofs.KeyWords.{wordLike, holds-key, other-key}
-use Rattle.table.specs.Slots.{Reads, Inside, slotsOf, NoneHas, recordOf, recordIn, InUseAt, withSlot, IsRecord}
+use Rattle.table.specs.Slots.{Reads, Inside, slotsOf, recordOf, recordIn, InUseAt, withSlot, IsRecord}
 use Rattle.table.proofs.Records.{table-of, inside-table, slot-bytes, slot-at}
 
 -- the part that code borrows for slot i: it begins at i times the size, and is as long as the size
@@ -86,24 +83,6 @@ module _ (f : Form) (t : List ℕ) (ok : Reads f t) (i : ℕ) (h : i < length (s
       part-back from n t r (size ∙ sym (p .size))
       ∙ (λ j. written (p .begins j) (e j) (sym (table-of f t ok .bytes) j))
       ∙ sym (tableBytes-set f (slotsOf f t) i s (table-of f t ok .kept) h (ap length (sym e) ∙ size))
-
--- one record more that does not have the word
-pub none-next : (at w : ℕ) (f : Form) (t : List ℕ) (i n : ℕ) → NoneHas at w f t i n → hasWord at w (recordAt f n t) ≡ false → NoneHas at w f t i (n + 1)
-none-next at w f t i n before here j low high = go (ltb j n) refl
-  where
-    go : (x : Bool) → ltb j n ≡ x → hasWord at w (recordAt f j t) ≡ false
-    go true e = before j low (ltb-true j n e)
-    go false e =
-        let is : n ≡ j = omega (arith, ltb-false j n e) in
-        subst (λ (m : ℕ). hasWord at w (recordAt f m t) ≡ false) is here
-
--- a record whose key does not have a key's word at its place does not hold the key
-pub none-holds : (f : Form) (t : List ℕ) → Reads f t → (k : List ℕ) (at w i n : ℕ) → WordOf k at w → n ≤ length (slotsOf f t) → NoneHas at w f t i n
-    → (j : ℕ) → i ≤ j → j < n → holds k (getD (slotsOf f t) j empty) ≡ false
-none-holds f t ok k at w i n is h others j low high =
-    let r = slot-readable f t ok j (omega arith) in
-    let other : wordLike at k (recordAt f j t) ≡ false = (λ x. hasWord at (sym (is .is) x) (recordAt f j t)) ∙ others j low high in
-    ap (holds k) (sym (slot-is f t ok j (omega arith))) ∙ sym (holds-key f k (recordAt f j t) r) ∙ other-key f k (recordAt f j t) r at other
 
 -- ---- a slot in use
 

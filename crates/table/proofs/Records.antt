@@ -13,7 +13,8 @@ use Rattle.model.specs.Bytes.{all}
 use Rattle.model.specs.Optional.{_>>=_}
 use Rattle.model.specs.Table.{Form, Slot, empty, recordSize, slotBytes, recordAt, readSlot, readSlots, sizeRules, readTable}
 use Rattle.model.specs.Optional.{isSome}
-use Rattle.model.proofs.Basics.{never, at-within}
+use borrow.Author.Tests.{leb-true}
+use Rattle.model.proofs.Basics.{never, and-left, every, at-within}
 use Rattle.model.proofs.Records.{Kept, readSlot-slotBytes}
 use Rattle.model.proofs.Tables.{WasTable, tableBytes-readTable, length-tableBytes, recordAt-tableBytes, all-at}
 use Rattle.table.specs.Slots.{Reads, Inside, slotsOf}
@@ -91,3 +92,9 @@ read-table f t = by (all (sizeRules f t))
     by : (ok : Bool) → isSome (cond ok (readSlots f (length t / recordSize f) t) none) ≡ ok && isSome (readSlots f (length t / recordSize f) t)
     by true = refl
     by false = refl
+
+-- a table has a slot
+pub some-slot : (f : Form) (t : List ℕ) → Reads f t → 0 < length (slotsOf f t)
+some-slot f t ok =
+    let sizes = every (sizeRules f t) (and-left (all (sizeRules f t)) _ (sym (read-table f t) ∙ ok)) in
+    omega (arith, leb-true 1 (length t / recordSize f) (sizes .1 .0), count-is f t ok)

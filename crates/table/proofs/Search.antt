@@ -4,7 +4,7 @@ use Prim.Native.Nat.{ℕ, zero, suc, _+_, _-_, _≤_, _<_}
 use native.Mathlib.Nat.{zero-add, add-zero}
 use native.Mathlib.Numerals.{add-one}
 use native.Mathlib.Omega.{arith}
-use mathlib.Core.Path.{_≡_, refl, sym, ap, subst, _∙_}
+use mathlib.Core.Path.{_≡_, refl, sym, ap, _∙_}
 use mathlib.Core.Bool.{Bool, true, false, cond, _||_}
 use mathlib.Core.List.{List, [], _∷_}
 use mathlib.Core.Option.{Option, none, some, Option·map}
@@ -36,16 +36,16 @@ module _ (p : Slot → Bool) (ss : List Slot) where
   unfolding lowestFrom
   lowest-start = sym (shifted-zero (lowest p ss))
 
-  lowest-end : (i : ℕ) → length ss ≤ i → lowestFrom p ss i ≡ none
+  pub lowest-end : (i : ℕ) → length ss ≤ i → lowestFrom p ss i ≡ none
   unfolding lowestFrom lowest
   lowest-end i h = rw (drop-of-length-le ss h)
 
   module _ (i : ℕ) (h : i < length ss) where
-    lowest-here : p (getD ss i empty) ≡ true → lowestFrom p ss i ≡ some i
+    pub lowest-here : p (getD ss i empty) ≡ true → lowestFrom p ss i ≡ some i
     unfolding lowestFrom lowest
     lowest-here e = rw (drop-cons ss i empty h, e, add-zero i)
 
-    lowest-next : p (getD ss i empty) ≡ false → lowestFrom p ss i ≡ lowestFrom p ss (i + 1)
+    pub lowest-next : p (getD ss i empty) ≡ false → lowestFrom p ss i ≡ lowestFrom p ss (i + 1)
     unfolding lowestFrom lowest
     lowest-next e = rw (drop-cons ss i empty h, e, add-one i) (shifted-suc i (lowest p (drop (suc i) ss)))
 
@@ -65,20 +65,6 @@ module _ {p : Slot → Bool} {ss : List Slot} {o : Option ℕ} {n i : ℕ} (q : 
 
     pub search-next : p (getD ss i empty) ≡ false → Searched p ss o n (i + 1)
     search-next e = record { within = omega arith; all = q .all; left = q .left ∙ lowest-next p ss i (omega arith) e }
-
--- slots that are known not to pass are passed over
-search-over : {p : Slot → Bool} {ss : List Slot} {o : Option ℕ} {n : ℕ} (d i : ℕ) → Searched p ss o n i → i + d ≤ n
-    → ((j : ℕ) → i ≤ j → j < i + d → p (getD ss j empty) ≡ false) → Searched p ss o n (i + d)
-search-over {p} {ss} {o} {n} zero i q h fails = subst (Searched p ss o n) (sym (add-zero i)) q
-search-over {p} {ss} {o} {n} (suc d) i q h fails =
-    let e : i + 1 + d ≡ i + suc d = omega arith in
-    subst (Searched p ss o n) e (search-over d (i + 1) (search-next q (omega arith) (fails i (omega arith) (omega arith))) (omega arith) (λ j a b. fails j (omega arith) (omega arith)))
-
-pub search-on : {p : Slot → Bool} {ss : List Slot} {o : Option ℕ} {n i : ℕ} (m : ℕ) → Searched p ss o n i → i ≤ m → m ≤ n
-    → ((j : ℕ) → i ≤ j → j < m → p (getD ss j empty) ≡ false) → Searched p ss o n m
-search-on {p} {ss} {o} {n} {i} m q low high fails =
-    let e : i + (m - i) ≡ m = omega arith in
-    subst (Searched p ss o n) e (search-over (m - i) i q (omega arith) (λ j a b. fails j a (omega arith)))
 
 -- no record has a key longer than 24 bytes
 lowest-long : (f : Form) (k : List ℕ) → 24 < length k → (ss : List Slot) → All (Kept f) ss → lowest (holds k) ss ≡ none

@@ -1,14 +1,14 @@
 -- What ties this crate's answers to the model: the slots of a table's bytes, and the table with a slot replaced.
-use Prim.Native.Nat.{ℕ, _+_, _*_, _≤_, _<_}
+use Prim.Native.Nat.{ℕ, _+_, _*_, _≤_}
 use mathlib.Core.Path.{_≡_}
-use mathlib.Core.Bool.{Bool, true, false}
+use mathlib.Core.Bool.{Bool, true}
 use mathlib.Core.List.{List, []}
 use mathlib.Core.Option.{Option, none, some, Option·getD, Option·map}
 use lib.ListN.{length, getD, getElem?, drop, set}
 use Rattle.model.specs.Table.{Form, Slot, Record, empty, used, fields, recordSize, recordAt, tableBytes, readTable}
 use Rattle.model.specs.Search.{Placed, findKey, lowest}
 use Rattle.model.specs.Optional.{isSome}
-use Rattle.record.specs.Record.{InUse, hasWord}
+use Rattle.record.specs.Record.{InUse}
 use Rattle.table.specs.declared.Found.{Found}
 use Rattle.table.specs.declared.Found.the-variants.{At, Nothing}
 
@@ -36,10 +36,6 @@ keySlot k ss = Option·map (λ (p : Placed). p .at) (findKey k ss)
 -- the lowest slot from the i-th on that passes a test
 unfoldable pub lowestFrom : (Slot → Bool) → List Slot → (i : ℕ) → Option ℕ
 lowestFrom p ss i = Option·map (λ (j : ℕ). i + j) (lowest p (drop i ss))
-
--- no record from the i-th to the one before the n-th has a key with the word w at a place
-abbrev pub NoneHas : (at w : ℕ) → Form → (t : List ℕ) (i n : ℕ) → Type 0
-NoneHas at w f t i n = (j : ℕ) → i ≤ j → j < n → hasWord at w (recordAt f j t) ≡ false
 
 -- the record of a slot; one of no bytes and zeros if the slot is empty
 abbrev pub recordOf : Slot → Record
