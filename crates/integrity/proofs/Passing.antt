@@ -7,7 +7,7 @@ use mathlib.Core.Bool.{Bool, true, false, _&&_, and-false}
 use mathlib.Core.List.{List, [], _∷_}
 use lib.Dec.{eqb}
 use lib.ListN.{length, drop, getD, drop-of-length-le}
-use lib.Seq.{drop-cons}
+use lib.Seq.{drop-cons, getD-set-other}
 use borrow.Author.Tests.{eqb-true, eqb-false}
 use Rattle.model.specs.Bytes.{part, padded, all}
 use Rattle.model.specs.Optional.{isSome}
@@ -50,10 +50,11 @@ module _ (f : Form) (t : List ℕ) where
   abbrev IsRead : ℕ → Type 0
   IsRead i = isSome (readSlot f (recordAt f i t)) ≡ true
 
-  -- the slots from i on are records, the index holds them, and their keys are distinct
+  -- the slots from i on are records, the index holds them and no others, and their keys are distinct
   pub record Passed (heads next : List ℕ) (i : ℕ) : Type 0 where
     pub slots : (j : ℕ) → i ≤ j → j < countOf f t → IsRead j
     pub index : Indexed f t i heads next
+    pub blank : (j : ℕ) → j < i → getD next j 0 ≡ 0
     pub keys : Reads f t → distinct (drop i (slotsOf f t)) ≡ true
 
   pub passed-none : {heads next : List ℕ} → Fresh f t heads next → countOf f t ≤ 256 → Passed heads next (countOf f t)
@@ -61,6 +62,7 @@ module _ (f : Form) (t : List ℕ) where
   passed-none {heads} {next} a h = record {
     slots = λ j low high. absurd (omega arith);
     index = indexed-none f t heads next (a .some) (a .room h) (a .none);
+    blank = λ j low. a .blank j;
     keys = λ ok. let all : length (slotsOf f t) ≤ countOf f t = omega (arith, count-is f t ok) in rw (drop-of-length-le (slotsOf f t) all);
   }
 
@@ -100,6 +102,7 @@ module _ (f : Form) (t : List ℕ) where
       passed-unused u = record {
         slots = slots-from;
         index = indexed-unused f t i h (p .index) u;
+        blank = λ j low. p .blank j (omega arith);
         keys = λ ok. distinct-from (slotsOf f t) i (within ok) ∙ rw (sym (slot-is f t ok i (within ok)) ∙ slot-unused f (recordAt f i t) readable u) (p .keys ok);
       }
 
@@ -128,6 +131,7 @@ module _ (f : Form) (t : List ℕ) where
           passed-used none = record {
             slots = slots-from;
             index = indexed-used f t i h (p .index) u first e;
+            blank = λ j low. ap (λ (n : List ℕ). getD n j 0) (e .link) ∙ getD-set-other next i j first 0 (λ z. omega arith) ∙ p .blank j (omega arith);
             keys = λ ok. distinct-from (slotsOf f t) i (within ok) ∙ rw (slot-now ok, not-held key (slotsOf f t) (i + 1) (entry-none f t ok key (i + 1) (omega arith) none)) (p .keys ok);
           }
 

@@ -17,10 +17,11 @@ use Rattle.integrity.specs.declared.Entered.the-variants.{Alone, After, 
 abbrev pub faultless : Form → (t : List ℕ) → Bool
 faultless f t = isSome (readTable f t) && distinct (slotsOf f t)
 
--- arrays for a check of the table t: no bucket has a head, and each slot has room unless they are too many
+-- arrays for a check of the table t: no bucket has a head, no slot one after it, and each slot has room unless they are too many
 pub record Fresh (f : Form) (t heads next : List ℕ) : Type 0 where
   pub some : 1 ≤ length heads
   pub none : (b : ℕ) → getD heads b 0 ≡ 0
+  pub blank : (j : ℕ) → getD next j 0 ≡ 0
   pub room : countOf f t ≤ tableLimit → countOf f t ≤ length next
 
 -- the check's answer, and the index that it leaves

@@ -4,7 +4,7 @@ use record::KEY_AT;
 use record::VALUE_AT;
 ghost use mathlib.Core.Path.{_≡_};
 ghost use Prim.Native.Nat.{_≤_, _<_};
-ghost use lib.ListN.{length};
+ghost use lib.ListN.{length, getD};
 ghost use Rattle.model.specs.Table.{recordSize};
 ghost use Rattle.record.specs.Forms.{formOf};
 ghost use Rattle.integrity.specs.Check.{Fresh, Checks, Tests};
@@ -57,7 +57,7 @@ pub fn check(table: &[u8], form: Form, heads: &mut [u8], next: &mut [u8]) -> boo
 
 // Tests the bytes of a slot, and enters it if they are a record in use.
 fn enter(r: &[u8], form: Form, slot: usize, heads: &mut [u8], next: &mut [u8]) -> Entered
-    requires { ⌜ (length (now r) ≡ recordSize (formOf form)) × (slot < 256) × (1 ≤ length (now heads)) × (slot < length (now next)) ⌝ }
+    requires { ⌜ (length (now r) ≡ recordSize (formOf form)) × (slot < 256) × (1 ≤ length (now heads)) × (slot < length (now next)) × (getD (now next) slot 0 ≡ 0) ⌝ }
     ensures { λ e. ⌜ Tests (formOf form) slot (now (r .entry)) (now (heads .entry)) (now (next .entry)) (now (heads .exit)) (now (next .exit)) e ⌝ }
 {
     if !record::in_use(r) {

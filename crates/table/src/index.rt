@@ -5,7 +5,7 @@ use record::KEY_LIMIT;
 ghost use mathlib.Core.Path.{_≡_};
 ghost use Prim.Native.Nat.{_-_, _<_, _≤_};
 ghost use lib.Bits.{bitAnd};
-ghost use lib.ListN.{length};
+ghost use lib.ListN.{length, getD};
 ghost use Rattle.model.specs.Table.{keyLimit};
 ghost use Rattle.record.specs.Forms.{formOf};
 ghost use Rattle.table.specs.Slots.{Reads, slotsOf, slotOf, keySlot};
@@ -20,17 +20,20 @@ fn bucket(hash: u64, n: usize) -> usize
 }
 
 // Enters a slot by the 24 bytes of its key, and gives back the entry that was at the head of its bucket. Slots are entered from the last one
-// down. No entry can name slot 0, which comes last.
+// down. No entry can name slot 0, which comes last. The slot's own entry is 0 before, so that only another one is written.
 pub fn enter(heads: &mut [u8], next: &mut [u8], slot: usize, key: &[u8]) -> usize
-    requires { ⌜ (1 ≤ length (now heads)) × (slot < length (now next)) × (slot < 256) × (length (now key) ≡ keyLimit) ⌝ }
+    requires { ⌜ (1 ≤ length (now heads)) × (slot < length (now next)) × (slot < 256) × (length (now key) ≡ keyLimit) × (getD (now next) slot 0 ≡ 0) ⌝ }
     ensures { λ first. ⌜ Enters slot (now (key .entry)) (now (heads .entry)) (now (next .entry)) first (now (heads .exit)) (now (next .exit)) ⌝ }
 {
     let at = bucket(crate::hash::of_padded(key), heads.len());
     let first = heads[at];
-    next[slot] = first;
     if 0 < slot {
         heads[at] = slot as u8;
     }
+    if first == 0 {
+        return 0;
+    }
+    next[slot] = first;
     first as usize
 }
 

@@ -109,6 +109,7 @@ enter-requires c κs =
       omega (arith, l .before .loop .inv .0, l .before .before .if3 .left),
       x .some,
       omega (arith, x .room, within l),
+      l .before .loop .inv .3 .blank (l .before .loop .above - 1) (omega arith),
     )
 
 module _ (e : tie.After-enter Inv-loop μ-loop) where
