@@ -13,6 +13,7 @@ use lib.Dec.{leb, eqb}
 use lib.Bits.{bitAnd}
 use borrow.Author.Tests.{eqb-true, leb-true, le-leb, lt-leb, not-true}
 use Rattle.model.specs.Bytes.{same, upper}
+use Rattle.model.specs.Checked.{given}
 use Rattle.model.specs.Command.{look}
 use Rattle.model.proofs.Basics.{and-left, and-right, ne-same}
 use Rattle.command.specs.Code.{capital, capitals, numberOf, codeOf}
@@ -156,3 +157,10 @@ module _ {A : Type 0} where
   -- a word whose number is that of none is not found
   pub not-found : {k : ℕ} (w : List ℕ) → k ≡ codeOf w → (t : List (List ℕ × A)) → keywords t ≡ true → NoCode k t (Unit {0}) → look w t ≡ none
   not-found w e t h n = no-code w e t h (Unit {0}) n .1
+
+  -- the keyword that has the number k is looked up in a table as the word w is
+  abbrev pub FoundAs : (n : ℕ) → List (List ℕ × A) → (w : List ℕ) (k : ℕ) → Type 0
+  FoundAs n t w k = (v : List ℕ) → keyword v ≡ true → k ≡ numberOf v → given n (look v t) ≡ given n (look w t)
+
+  pub found-as : (n : ℕ) (t : List (List ℕ × A)) (w : List ℕ) {k : ℕ} → k ≡ codeOf w → FoundAs n t w k
+  found-as n t w e v h f = ap (λ (x : List ℕ). given n (look x t)) (sym (code-tells v h w (sym e ∙ f)))

@@ -187,100 +187,104 @@ const WITH_VERSION: u16 = 256;
 
 const WITH_FLAGS: u16 = 512;
 
+// ---- the rule of each command
+
+const EXSET: Rule = Rule {
+    fixed: 3,
+    exact: false,
+    valued: true,
+    number: Number::Absent,
+    kinds: TIME | PRESENCE | VERSION | FLAGS | WITH_VERSION,
+    timed: false,
+    keeps: false,
+};
+
+const EXGET: Rule = Rule {
+    fixed: 2,
+    exact: false,
+    valued: false,
+    number: Number::Absent,
+    kinds: WITH_FLAGS,
+    timed: false,
+    keeps: false,
+};
+
+// EXSETVER and EXCAD.
+const VERSIONED: Rule = Rule {
+    fixed: 3,
+    exact: true,
+    valued: false,
+    number: Number::Version,
+    kinds: 0,
+    timed: false,
+    keeps: false,
+};
+
+const EXINCRBY: Rule = Rule {
+    fixed: 3,
+    exact: false,
+    valued: false,
+    number: Number::Signed,
+    kinds: TIME | PRESENCE | VERSION | MIN | MAX | NON_NEGATIVE | WITH_VERSION,
+    timed: false,
+    keeps: true,
+};
+
+const EXCAS: Rule = Rule {
+    fixed: 4,
+    exact: false,
+    valued: true,
+    number: Number::Version,
+    kinds: TIME | KEEP_TTL,
+    timed: false,
+    keeps: false,
+};
+
+// EXAPPEND and EXPREPEND.
+const JOINED: Rule = Rule {
+    fixed: 3,
+    exact: false,
+    valued: true,
+    number: Number::Absent,
+    kinds: PRESENCE | VERSION,
+    timed: false,
+    keeps: true,
+};
+
+const EXGAE: Rule = Rule {
+    fixed: 2,
+    exact: false,
+    valued: false,
+    number: Number::Absent,
+    kinds: TIME,
+    timed: true,
+    keeps: false,
+};
+
+const DEL: Rule = Rule {
+    fixed: 2,
+    exact: true,
+    valued: false,
+    number: Number::Absent,
+    kinds: 0,
+    timed: false,
+    keeps: false,
+};
+
 // The rule of a command.
 pub fn rule_of(name: Name) -> Rule
     ensures { λ r. ⌜ modelRule r ≡ ruleOf (modelName name) ⌝ }
 {
     match name {
-        Name::Exset => Rule {
-            fixed: 3,
-            exact: false,
-            valued: true,
-            number: Number::Absent,
-            kinds: TIME | PRESENCE | VERSION | FLAGS | WITH_VERSION,
-            timed: false,
-            keeps: false,
-        },
-        Name::Exget => Rule {
-            fixed: 2,
-            exact: false,
-            valued: false,
-            number: Number::Absent,
-            kinds: WITH_FLAGS,
-            timed: false,
-            keeps: false,
-        },
-        Name::Exsetver => Rule {
-            fixed: 3,
-            exact: true,
-            valued: false,
-            number: Number::Version,
-            kinds: 0,
-            timed: false,
-            keeps: false,
-        },
-        Name::Exincrby => Rule {
-            fixed: 3,
-            exact: false,
-            valued: false,
-            number: Number::Signed,
-            kinds: TIME | PRESENCE | VERSION | MIN | MAX | NON_NEGATIVE | WITH_VERSION,
-            timed: false,
-            keeps: true,
-        },
-        Name::Excas => Rule {
-            fixed: 4,
-            exact: false,
-            valued: true,
-            number: Number::Version,
-            kinds: TIME | KEEP_TTL,
-            timed: false,
-            keeps: false,
-        },
-        Name::Excad => Rule {
-            fixed: 3,
-            exact: true,
-            valued: false,
-            number: Number::Version,
-            kinds: 0,
-            timed: false,
-            keeps: false,
-        },
-        Name::Exappend => Rule {
-            fixed: 3,
-            exact: false,
-            valued: true,
-            number: Number::Absent,
-            kinds: PRESENCE | VERSION,
-            timed: false,
-            keeps: true,
-        },
-        Name::Exprepend => Rule {
-            fixed: 3,
-            exact: false,
-            valued: true,
-            number: Number::Absent,
-            kinds: PRESENCE | VERSION,
-            timed: false,
-            keeps: true,
-        },
-        Name::Exgae => Rule {
-            fixed: 2,
-            exact: false,
-            valued: false,
-            number: Number::Absent,
-            kinds: TIME,
-            timed: true,
-            keeps: false,
-        },
-        Name::Del => Rule {
-            fixed: 2,
-            exact: true,
-            valued: false,
-            number: Number::Absent,
-            kinds: 0,
-            timed: false,
-            keeps: false,
-        },
+        Name::Exset => EXSET,
+        Name::Exget => EXGET,
+        Name::Exsetver => VERSIONED,
+        Name::Exincrby => EXINCRBY,
+        Name::Excas => EXCAS,
+        Name::Excad => VERSIONED,
+        Name::Exappend => JOINED,
+        Name::Exprepend => JOINED,
+        Name::Exgae => EXGAE,
+        Name::Del => DEL,
     }
 }

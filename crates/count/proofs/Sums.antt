@@ -1,10 +1,12 @@
 -- The tests of a sum one by one: what the model's `sum` is where one fails, and where all pass. Each law follows by the cases of its tests.
-use mathlib.Core.Path.{_≡_, refl, ap, _∙_}
+use mathlib.Core.Path.{_≡_, refl, sym, ap, _∙_}
 use mathlib.Core.Bool.{Bool, true, false, cond, not}
 use mathlib.Core.List.{List}
 use mathlib.Core.Option.{Option, none, some}
 use Prim.Native.Nat.{ℕ}
 use native.Mathlib.Omega.{arith}
+use mir.Syntax.{w64}
+use mir.Val.{SFits}
 use lib.IntN.{ℤ, pos, negsuc, _+ℤ_}
 use lib.Signed.{ltZ}
 use Rattle.model.specs.Checked.{Checked, refuse, ok, given, _>>=_}
@@ -14,7 +16,7 @@ use Rattle.model.specs.Execute.{notBelow, notAbove, floored, sum, total}
 use Rattle.command.specs.Command.{modelBound}
 use Rattle.command.specs.declared.Bound.{Bound}
 use Rattle.command.specs.declared.Bound.the-variants as Bound
-use Rattle.number.proofs.Integers.{lt-true}
+use Rattle.number.proofs.Integers.{lt-true, back, back-is}
 use Rattle.number.specs.Answer.{signedFrom, sumFrom}
 use Rattle.number.specs.declared.Signed.the-variants as Signed
 use Rattle.number.specs.declared.Sum.the-variants.{Fits, Overflow}
@@ -23,13 +25,14 @@ use Rattle.number.specs.declared.Sum.the-variants.{Fits, Overflow}
 clash : {X : Type 0} → _≡_ {A = ℕ} 0 1 → X
 clash e = absurd (omega arith)
 
--- ---- the bounds
+-- ---- the bounds: a test of two numbers of 64 bits, as code makes it, is the model's
 
-pub below-is : (b : Bound) (least z : ℤ) (t : Bool) → b ≡ Bound.At least → ltZ z least ≡ t → notBelow (modelBound b) z ≡ not t
-below-is b least z t e q = ap (λ (x : Bound). notBelow (modelBound x) z) e ∙ ap not q
+module _ (b : Bound) {at z : ℤ} {t : Bool} (e : b ≡ Bound.At at) (f : SFits w64 at) (g : SFits w64 z) where
+  pub below-is : ltZ (back z) (back at) ≡ t → not t ≡ notBelow (modelBound b) z
+  below-is q = sym (ap (λ (x : Bound). notBelow (modelBound x) z) e ∙ ap not (simp (back-is f, back-is g) at q))
 
-pub above-is : (b : Bound) (most z : ℤ) (t : Bool) → b ≡ Bound.At most → ltZ most z ≡ t → notAbove (modelBound b) z ≡ not t
-above-is b most z t e q = ap (λ (x : Bound). notAbove (modelBound x) z) e ∙ ap not q
+  pub above-is : ltZ (back at) (back z) ≡ t → not t ≡ notAbove (modelBound b) z
+  above-is q = sym (ap (λ (x : Bound). notAbove (modelBound x) z) e ∙ ap not (simp (back-is f, back-is g) at q))
 
 -- ---- the floor
 

@@ -13,7 +13,7 @@ use Rattle.model.specs.Checked.{Checked, refuse, ok, _>>=_}
 use Rattle.model.specs.Number.{versionLimit, isSigned, signedLimit, intText}
 use Rattle.model.specs.Table.{Form}
 use Rattle.model.specs.Search.{Placed, liveRecord, slotFor}
-use Rattle.model.specs.Resp.{Reply}
+use Rattle.model.specs.Resp.{Reply, one, nil}
 use Rattle.model.specs.Command.{Terms}
 use Rattle.model.specs.Execute.{Effect, New, setReply, countReply, swapReply, versionReply, swapping, joined, total, counted, storing, write, admit}
 use Rattle.model.specs.Call.{errorReply}
@@ -29,6 +29,7 @@ use Rattle.command.specs.declared.Action.the-variants.{Exset, Exincrby, Excas, 
 use Rattle.record.specs.declared.Attributes.{Attributes}
 use Rattle.table.specs.Slots.{slotsOf}
 use Rattle.live.specs.declared.Admission.{Admission}
+use Rattle.live.specs.declared.Admission.the-variants.{Nil, Stale, Granted}
 use Rattle.live.specs.declared.Lookup.{Lookup}
 use Rattle.live.specs.declared.Lookup.the-variants.{Live}
 use Rattle.live.specs.declared.Target.{Target}
@@ -40,9 +41,9 @@ use Rattle.put.specs.declared.Stored.the-variants.{Version, Refused}
 use Rattle.put.specs.Put.{checkedStored, putIn, valueIn, tableAfter, Puts}
 use Rattle.reply.specs.declared.Answer.{Answer}
 use Rattle.reply.specs.Replied.{Replied}
-use Rattle.execute.specs.Does.{Held, held, actIn, Does}
+use Rattle.execute.specs.Does.{Held, held, SomeRoom, Ready, actIn, Does}
 use Rattle.execute.specs.Finish.{StoredOk, Finishes}
-use Rattle.execute.proofs.Doing.{does-refuse, does-store}
+use Rattle.execute.proofs.Doing.{does-refuse, does-answer, does-store}
 use Rattle.execute.proofs.Acting.{excas-live}
 
 -- ---- what was stored
@@ -69,9 +70,14 @@ stored-ok x h (Version n) e =
     let w = stored-is x n e in
     subst (λ (m : ℕ). m < versionLimit) (w .version) (subst (Comes Executing (λ (p : Placed). p .rec .version < versionLimit)) (w .is) h)
 
-pub puts-ok : (t : List ℕ) (g : Target) (k : List ℕ) (m : Terms) (fl : Option ℕ) (v : List ℕ) → ChangeOk (m .change) → (after : List ℕ) (r : Stored)
+puts-ok : (t : List ℕ) (g : Target) (k : List ℕ) (m : Terms) (fl : Option ℕ) (v : List ℕ) → ChangeOk (m .change) → (after : List ℕ) (r : Stored)
     → Puts (shapeOf g) t after r (putIn t g k m fl v) → StoredOk r
 puts-ok t g k m fl v h after r p = stored-ok (putIn t g k m fl v) (put-version (shapeOf g) k (lookupIn t g) (slotIn t g) m fl v h) r (p .stored)
+
+-- what answering by it asks
+pub finish-in : {g : Target} {k : List ℕ} {old : Held} → Ready g k old → (m : Terms) (fl : Option ℕ) (v : List ℕ) → ChangeOk (m .change) → {after : List ℕ} {r : Stored}
+    → Puts (shapeOf g) (old .table) after r (putIn (old .table) g k m fl v) → SomeRoom (old .reply) × StoredOk r
+finish-in {g} {k} {old} h m fl v c p = (record { form = _; room = h .room }, puts-ok (old .table) g k m fl v c _ _ p)
 
 -- ---- the effect of a write
 
@@ -92,26 +98,53 @@ module _ (t : List ℕ) (g : Target) (k : List ℕ) where
   unfolding write
   write-none m fl make n e = rw e
 
-  -- what NX, XX and VER make of it
-  module _ {q r : Admission} (told : r ≡ q) where
-    through : (m : Terms) (next : Checked Effect) → ((next : Checked Effect) → admitted r next ≡ admit m (storedIn (g .found)) next)
-        → admit m (liveRecord (lookupIn t g)) next ≡ admitted q next
-    through m next h = sym (h next ∙ admit-stored (shapeOf g) t (g .found) m next) ∙ ap (λ (x : Admission). admitted x next) told
+  -- what EXSET, EXINCRBY, EXAPPEND and EXPREPEND write
+  abbrev pub setIn : (v : List ℕ) → Set → Checked Effect
+  setIn v s = writeIn (modelTerms (s .terms)) (some (s .flags)) λ old. ok (record { text = v; reply = setReply (s .«with_version») })
 
-    pub exset-by : (v : List ℕ) (s : Set) → ((next : Checked Effect) → admitted r next ≡ admit (modelTerms (s .terms)) (storedIn (g .found)) next)
-        → actIn t g k v (Exset s) ≡ admitted q (writeIn (modelTerms (s .terms)) (some (s .flags)) λ old. ok (record { text = v; reply = setReply (s .«with_version») }))
-    unfolding modelAction
-    exset-by v s h = through (modelTerms (s .terms)) _ h
+  abbrev pub countIn : Increment → Checked Effect
+  countIn s = writeIn (modelTerms (s .terms)) none (counted (modelIncrement s))
 
-    pub exincrby-by : (v : List ℕ) (s : Increment) → ((next : Checked Effect) → admitted r next ≡ admit (modelTerms (s .terms)) (storedIn (g .found)) next)
-        → actIn t g k v (Exincrby s) ≡ admitted q (writeIn (modelTerms (s .terms)) none (counted (modelIncrement s)))
-    unfolding modelAction
-    exincrby-by v s h = through (modelTerms (s .terms)) _ h
+  abbrev pub joinIn : (v : List ℕ) → Join → Checked Effect
+  joinIn v s = writeIn (modelTerms (s .terms)) none λ old. ok (record { text = joined (modelEnd (s .end)) v old; reply = versionReply })
 
-    pub exjoin-by : (v : List ℕ) (s : Join) → ((next : Checked Effect) → admitted r next ≡ admit (modelTerms (s .terms)) (storedIn (g .found)) next)
-        → actIn t g k v (Exjoin s) ≡ admitted q (writeIn (modelTerms (s .terms)) none λ old. ok (record { text = joined (modelEnd (s .end)) v old; reply = versionReply }))
-    unfolding modelAction
-    exjoin-by v s h = through (modelTerms (s .terms)) _ h
+-- ---- what NX, XX and VER make of a write
+
+-- what does w where it is let through does x; r tells whether it is
+pub record LetBy (r : Admission) (w x : Checked Effect) : Type 0 where
+  pub by : {q : Admission} → r ≡ q → x ≡ admitted q w
+
+-- r is the answer to the terms m
+abbrev pub Admits : Target → Terms → Admission → Type 0
+Admits g m r = (next : Checked Effect) → admitted r next ≡ admit m (storedIn (g .found)) next
+
+module _ (t : List ℕ) (g : Target) (k v : List ℕ) {r : Admission} where
+  let-by : (m : Terms) (next : Checked Effect) → Admits g m r → LetBy r next (admit m (liveRecord (lookupIn t g)) next)
+  let-by m next h = record { by = λ e. sym (h next ∙ admit-stored (shapeOf g) t (g .found) m next) ∙ ap (λ (x : Admission). admitted x next) e }
+
+  pub exset-by : (s : Set) → Admits g (modelTerms (s .terms)) r → LetBy r (setIn t g k v s) (actIn t g k v (Exset s))
+  unfolding modelAction
+  exset-by s = let-by (modelTerms (s .terms)) (setIn t g k v s)
+
+  pub exincrby-by : (s : Increment) → Admits g (modelTerms (s .terms)) r → LetBy r (countIn t g k s) (actIn t g k v (Exincrby s))
+  unfolding modelAction
+  exincrby-by s = let-by (modelTerms (s .terms)) (countIn t g k s)
+
+  pub exjoin-by : (s : Join) → Admits g (modelTerms (s .terms)) r → LetBy r (joinIn t g k v s) (actIn t g k v (Exjoin s))
+  unfolding modelAction
+  exjoin-by s = let-by (modelTerms (s .terms)) (joinIn t g k v s)
+
+-- the answer of a command that is not let through, and of one that is
+module _ {r : Admission} {w x : Checked Effect} (h : LetBy r w x) {f : Form} {old new : List ℕ} {a : Answer} where
+  pub turned-nil : (t : List ℕ) → r ≡ Nil → Replied 0 (one nil) old new a → Does f (held t old) (held t new) x a
+  turned-nil t e = does-answer f t old new x a (h .by e)
+
+  pub turned-stale : (t : List ℕ) → r ≡ Stale → Replied 12 (errorReply 12) old new a → Does f (held t old) (held t new) x a
+  turned-stale t e = does-refuse f t old new x a (h .by e)
+
+  pub granted : (t after : List ℕ) → r ≡ Granted → {p : Checked Placed} {reply : ℕ → Reply} → w ≡ (p >>= λ (p : Placed). ok (storing reply p))
+      → {stored : Stored} → Puts f t after stored p → Finishes old new stored reply a → Does f (held t old) (held after new) x a
+  granted t after e n p q = does-as (h .by e ∙ n) (q .does f t after _ p)
 
 -- ---- the answer to what was put
 

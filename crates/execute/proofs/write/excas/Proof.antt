@@ -10,7 +10,7 @@ use Rattle.live.specs.Under.{shapeOf}
 use Rattle.live.proofs.Cases.{live-here, in-use-here}
 use Rattle.execute.proofs.Doing.{minusOne-in, stale-in, replied-stale, does-answer}
 use Rattle.execute.proofs.Acting.{liveHere, excas-absent, excas-live}
-use Rattle.execute.proofs.Writing.{puts-ok, does-as, write-new, excas-own}
+use Rattle.execute.proofs.Writing.{finish-in, does-as, write-new, excas-own}
 use Rattle.execute.proofs.write.excas.Statement.{statement}
 use Rattle.execute.proofs.write.excas.Tie as tie
 
@@ -57,7 +57,7 @@ store-value-requires c κs =
 finish-requires : tie.Need-finish-requires
 finish-requires c κs =
     let s = c .before .before .before .before .before .before .before .before .before .before .before .before .before .before .before in
-    (record { form = _; room = s .pre .0 .room }, puts-ok (s .args .table .now) (s .args .target) _ (swapping (modelExpire (s .args .swap .expire))) _ _ tt _ _ (c .before .before .before .store-value .ensures))
+    finish-in (s .pre .0) (swapping (modelExpire (s .args .swap .expire))) _ _ tt (c .before .before .before .store-value .ensures)
 
 returns-3 : tie.Need-returns-3
 returns-3 c =

@@ -1,14 +1,13 @@
 -- `reply::error` meets its contract: the text of the number is the part between two starts, and the reply's one piece.
-use mathlib.Core.Path.{subst, subst⁻¹}
+use mathlib.Core.Path.{refl, subst}
 use mathlib.Core.List.{List}
-use Prim.Native.Nat.{ℕ, _-_, _≤_, _<_}
+use Prim.Native.Nat.{ℕ, _-_, _<_}
 use native.Mathlib.Omega.{arith}
-use lib.ListN.{length}
 use Rattle.model.specs.Resp.{scalarBytes, error}
 use Rattle.model.specs.Call.{errorReply}
 use Rattle.slice.specs.Wrote.{Wrote}
 use Rattle.reply.proofs.Writing.{Begun, begin, room, next, replied}
-use Rattle.reply.proofs.Messages.{message-is, start-before, end-within}
+use Rattle.reply.proofs.Messages.{message-is, start-before, end-within, part-fits}
 use borrow.Author.Needs.{needs}
 use Rattle.reply.proofs.refusal.error.Statement.{statement}
 use Rattle.reply.proofs.refusal.error.Tie as tie
@@ -22,11 +21,8 @@ below c = omega arith
 put-part-requires : tie.Need-put-part-requires
 put-part-requires c κs =
     let s = c .before .before .before in
-    let i = s .args .number - 5 in (
-      start-before i (below s),
-      end-within i (below s),
-      subst⁻¹ (λ (l : List ℕ). length (scalarBytes (error l)) ≤ length (s .args .reply .now)) (message-is i (below s)) (omega (arith, room (start s))),
-    )
+    let i = s .args .number - 5 in
+    (start-before i (below s), end-within i (below s), part-fits i (below s) _ refl (omega (arith, room (start s))))
 
 returns : tie.Need-returns
 returns c =
