@@ -42,7 +42,8 @@ pub enum End {
     Front,
 }
 
-// On what terms a value is written: NX or XX, VER or ABS, and what becomes of the expiry.
+// On what terms a value is written: NX or XX, VER or ABS, and what becomes of the expiry. They come first in every command that has them, so that
+// they stand at one place whichever it is.
 pub struct Terms {
     pub presence: Presence,
     pub change: Change,
@@ -52,24 +53,24 @@ pub struct Terms {
 // EXSET: how it stores, and whether it answers with the version.
 pub struct Set {
     pub terms: Terms,
-    pub flags: u32,
     pub with_version: bool,
+    pub flags: u32,
 }
 
 // EXINCRBY: what it adds, on what terms and within which bounds, and whether it answers with the version.
 pub struct Increment {
-    pub by: i64,
     pub terms: Terms,
+    pub with_version: bool,
+    pub non_negative: bool,
+    pub by: i64,
     pub min: Bound,
     pub max: Bound,
-    pub non_negative: bool,
-    pub with_version: bool,
 }
 
 // EXAPPEND and EXPREPEND: where the text goes, and on what terms.
 pub struct Join {
-    pub end: End,
     pub terms: Terms,
+    pub end: End,
 }
 
 // EXCAS: the version that the record must have, and what becomes of the expiry.
