@@ -54,14 +54,7 @@ pub enum Admission {
 }
 
 // The one search for a command's key, by the index that the check of the table left.
-pub fn look_up(
-    table: &[u8],
-    form: Form,
-    time: u64,
-    key: &[u8],
-    heads: &[u8],
-    next: &[u8],
-) -> Lookup
+pub fn look_up(table: &[u8], form: Form, time: u64, key: &[u8], heads: &[u8], next: &[u8]) -> Lookup
     requires { ⌜ Reads (formOf form) (now table) ⌝ }
     requires { ⌜ Indexed (formOf form) (now table) 0 (now heads) (now next) ⌝ }
     ensures { λ r. ⌜ IsUnder (formOf form) (now (table .entry)) time (now (key .entry)) r ⌝ }
