@@ -124,10 +124,9 @@ fn list_records(table: &[u8], time: u64, shown: bool) -> bool {
 
 // Whether a table keeps all the rules.
 fn is_sound(table: &[u8]) -> bool {
-    if !integrity::records_ok(table, Form::Of128) {
-        return false;
-    }
-    integrity::keys_ok(table, Form::Of128)
+    let mut heads = [0; 2048];
+    let mut next = [0; 256];
+    integrity::check(table, Form::Of128, &mut heads, &mut next)
 }
 
 // Lists a table, or says that it keeps the rules. The faults of one that breaks them are told first.

@@ -1,10 +1,9 @@
 -- From the words on: what is known of a parsed command, and what its execution comes to.
 use Prim.Native.Nat.{ℕ}
-use native.Mathlib.Omega.{arith}
 use mathlib.Core.Path.{_≡_, sym, ap, subst, _∙_}
 use mathlib.Core.List.{List}
 use Rattle.model.specs.Checked.{Checked, _>>=_}
-use Rattle.model.specs.Table.{Form}
+use Rattle.model.specs.Table.{Form, form128}
 use Rattle.model.specs.Search.{lookup, slotFor}
 use Rattle.model.specs.Command.{Command}
 use Rattle.model.specs.Parse.{wordAt, parse}
@@ -12,10 +11,8 @@ use Rattle.model.specs.Execute.{act, execute}
 use Rattle.model.specs.Call.{errorReply, effectOn}
 use Rattle.model.proofs.Steps.{Comes}
 use Rattle.model.proofs.Commands.{Parsing, Known, ActionOk, parse-known}
-use Rattle.model.proofs.Replies.{Roomy, roomy128}
-use Rattle.record.specs.Forms.{formOf}
 use Rattle.record.specs.declared.Form as code
-use Rattle.record.specs.declared.Form.the-variants.{Of128, Of192}
+use Rattle.record.specs.declared.Form.the-variants.{Of128}
 use Rattle.table.specs.Slots.{slotsOf}
 use Rattle.resp.specs.Spans.{wordsOf}
 use Rattle.command.specs.Command.{modelAction, modelCommand, checkedParsed}
@@ -31,12 +28,7 @@ use Rattle.reply.specs.Replied.{Replied}
 use Rattle.reply.proofs.Outcomes.{answered-outcome}
 use Rattle.execute.specs.Does.{Held, held, ActionFits, actIn, Does}
 use Rattle.store.specs.declared.entry.Query.{Query}
-use Rattle.store.specs.Gated.{queryForm, Runs}
-
--- both forms leave room for every reply
-pub roomy : (f : code.Form) → Roomy (formOf f)
-roomy Of128 = roomy128
-roomy Of192 = record { digits = 2; counted = omega arith; small = omega arith; room = omega arith }
+use Rattle.store.specs.Gated.{Runs}
 
 -- ---- what the parse's answer says
 
@@ -76,20 +68,20 @@ act-is t g ws a ek ev u =
 
 -- the target of a call, where the search answered l
 abbrev pub targetAt : Query → Lookup → Target
-targetAt q l = record { form = q .form; time = q .time; found = l }
+targetAt q l = record { form = Of128; time = q .time; found = l }
 
-module _ (q : Query) (c t b : List ℕ) {r : Parsed} (e : checkedParsed (wordsOf c) r ≡ parse (queryForm q) (q .time) (wordsOf c)) where
+module _ (q : Query) (c t b : List ℕ) {r : Parsed} (e : checkedParsed (wordsOf c) r ≡ parse form128 (q .time) (wordsOf c)) where
   effect-is : {x : Parsed} → r ≡ x
-      → effectOn (queryForm q) t b (slotsOf (queryForm q) t) (checkedParsed (wordsOf c) x >>= execute (queryForm q) (q .time) (slotsOf (queryForm q) t))
-      ≡ effectOn (queryForm q) t b (slotsOf (queryForm q) t) (parse (queryForm q) (q .time) (wordsOf c) >>= execute (queryForm q) (q .time) (slotsOf (queryForm q) t))
+      → effectOn form128 t b (slotsOf form128 t) (checkedParsed (wordsOf c) x >>= execute form128 (q .time) (slotsOf form128 t))
+      ≡ effectOn form128 t b (slotsOf form128 t) (parse form128 (q .time) (wordsOf c) >>= execute form128 (q .time) (slotsOf form128 t))
   effect-is h =
-      ap (λ (x : Checked Command). effectOn (queryForm q) t b (slotsOf (queryForm q) t) (x >>= execute (queryForm q) (q .time) (slotsOf (queryForm q) t)))
+      ap (λ (x : Checked Command). effectOn form128 t b (slotsOf form128 t) (x >>= execute form128 (q .time) (slotsOf form128 t)))
       (ap (checkedParsed (wordsOf c)) (sym h) ∙ e)
 
   pub runs-refused : {n : ℕ} → r ≡ Parsed.Refused n → {after : List ℕ} {a : Answer} → Replied n (errorReply n) b after a → Runs q c (held t b) (held t after) a
   runs-refused h w = record { outcome = answered-outcome w t ∙ effect-is h }
 
   pub runs-done : {x : Action} → r ≡ Parsed.Action x → (l : Lookup) {k v : List ℕ} → k ≡ wordAt 1 (wordsOf c) → v ≡ wordAt 2 (wordsOf c)
-      → IsUnder (queryForm q) t (q .time) k l → {new : Held} {a : Answer} → Does (queryForm q) (held t b) new (actIn t (targetAt q l) k v x) a → Runs q c (held t b) new a
+      → IsUnder form128 t (q .time) k l → {new : Held} {a : Answer} → Does form128 (held t b) new (actIn t (targetAt q l) k v x) a → Runs q c (held t b) new a
   runs-done {x} h l ek ev u d =
-      record { outcome = d .outcome ∙ (ap (effectOn (queryForm q) t b (slotsOf (queryForm q) t)) (act-is t (targetAt q l) (wordsOf c) x ek ev u) ∙ effect-is h) }
+      record { outcome = d .outcome ∙ (ap (effectOn form128 t b (slotsOf form128 t)) (act-is t (targetAt q l) (wordsOf c) x ek ev u) ∙ effect-is h) }

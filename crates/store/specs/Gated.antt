@@ -1,30 +1,21 @@
--- What the gate answers, and what holds of a call that passed it. t, c and places are the bytes of the table and the command, and the array of its words' places.
+-- What the gate answers, and what holds of a call that passed it. t, c and places are the bytes of the table and the command, and the array of its words' places; heads and next are the arrays of the index.
 use Prim.Native.Nat.{ℕ, _≤_}
 use mathlib.Core.Path.{_≡_}
 use mathlib.Core.List.{List}
 use lib.ListN.{length}
 use Rattle.model.specs.Checked.{Checked, refuse, ok, _>>=_}
-use Rattle.model.specs.Table.{Form, timeLimit}
+use Rattle.model.specs.Table.{form128, timeLimit}
 use Rattle.model.specs.Gate.{Inputs, gate}
 use Rattle.model.specs.Parse.{parse}
 use Rattle.model.specs.Execute.{execute}
-use Rattle.record.specs.declared.Form as forms
-use Rattle.record.specs.Forms.{formOf}
 use Rattle.table.specs.Slots.{Reads, slotsOf}
+use Rattle.table.specs.Index.{Indexed}
 use Rattle.resp.specs.Spans.{wordsOf, Splits}
 use Rattle.reply.specs.declared.Answer.{Answer}
 use Rattle.execute.specs.Does.{Held, Does}
 use Rattle.store.specs.declared.entry.Query.{Query}
 use Rattle.store.specs.declared.entry.Entry.{Entry}
 use Rattle.store.specs.declared.entry.Entry.the-variants.{Passed, Refused}
-
--- the model's form of the records
-abbrev pub queryForm : Query → Form
-queryForm q = formOf (q .form)
-
--- what is asked, from its parts
-abbrev pub asked : forms.Form → (time room : ℕ) → Query
-asked f time room = record { form = f; time = time; room = room }
 
 -- the number of words, or the number of the refusal
 abbrev pub checkedEntry : Entry → Checked ℕ
@@ -33,23 +24,24 @@ checkedEntry (Refused n) = refuse n
 
 -- the model's gate
 abbrev pub gateIn : Query → (t c : List ℕ) → Checked Inputs
-gateIn q t c = gate (queryForm q) t (q .time) (q .room) c
+gateIn q t c = gate form128 t (q .time) (q .room) c
 
 -- a call that passed the gate, with n words
 pub record Entered (q : Query) (t c places : List ℕ) (n : ℕ) : Type 0 where
-  pub is : gateIn q t c ≡ ok (record { slots = slotsOf (queryForm q) t; words = wordsOf c })
-  pub reads : Reads (queryForm q) t
+  pub is : gateIn q t c ≡ ok (record { slots = slotsOf form128 t; words = wordsOf c })
+  pub reads : Reads form128 t
   pub time : q .time ≤ timeLimit
-  pub room : queryForm q .replyRoom ≤ q .room
+  pub room : form128 .replyRoom ≤ q .room
   pub splits : Splits c places
   pub count : n ≡ length (wordsOf c)
 
--- what the gate answers, and the array that it leaves
-pub record Gates (q : Query) (t c places : List ℕ) (r : Entry) : Type 0 where
+-- what the gate answers, and the arrays that it leaves
+pub record Gates (q : Query) (t c places heads next : List ℕ) (r : Entry) : Type 0 where
   pub answer : checkedEntry r ≡ (gateIn q t c >>= λ (i : Inputs). ok (length (i .words)))
   pub passed : (n : ℕ) → r ≡ Passed n → Entered q t c places n
+  pub index : (n : ℕ) → r ≡ Passed n → Indexed form128 t 0 heads next
 
 -- the answer a and the bytes, from `old` to `new`, are those of the command c after the gate
 abbrev pub Runs : Query → (c : List ℕ) → (old new : Held) → Answer → Type 0
 Runs q c old new a =
-    Does (queryForm q) old new (parse (queryForm q) (q .time) (wordsOf c) >>= execute (queryForm q) (q .time) (slotsOf (queryForm q) (old .table))) a
+    Does form128 old new (parse form128 (q .time) (wordsOf c) >>= execute form128 (q .time) (slotsOf form128 (old .table))) a

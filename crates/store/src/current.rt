@@ -1,4 +1,5 @@
 // Where the current value of a key stands after an EXGET or EXCAS, found without doing the command: a part of the table or of the command.
+use crate::SMALL;
 use crate::entry::Entry;
 use crate::entry::Query;
 use command::Action;
@@ -12,12 +13,11 @@ use resp::Span;
 ghost use Prim.Native.Nat.{_≤_};
 ghost use mathlib.Core.Path.{_≡_};
 ghost use Rattle.model.specs.Table.{form128};
-ghost use Rattle.model.specs.CurrentValue.{currentValue, showsIn, orNothing};
+ghost use Rattle.model.specs.CurrentValue.{currentValue};
 ghost use Rattle.record.specs.Forms.{formOf};
-ghost use Rattle.table.specs.Slots.{Reads, slotsOf, InUseAt};
-ghost use Rattle.resp.specs.Spans.{wordsOf};
+ghost use Rattle.table.specs.Slots.{Reads, InUseAt};
 ghost use Rattle.live.specs.Under.{Sound, shapeOf};
-ghost use Rattle.store.specs.Gated.{queryForm, Entered};
+ghost use Rattle.integrity.specs.Check.{Fresh};
 ghost use Rattle.store.specs.Shows.{modelShown};
 ghost use Rattle.store.specs.Current.{storedAt, swappedTo, shownBy, ActionAt};
 
@@ -78,38 +78,43 @@ fn shown_by(table: &[u8], target: Target, action: Action, value: Span) -> Shown
     }
 }
 
-// What a command that passed the gate shows.
-fn show(table: &[u8], query: Query, command: &[u8], places: &[u16; 32], count: usize) -> Shown
-    requires { ⌜ Entered query (now table) (now command) (now places) count ⌝ }
-    ensures { λ r. ⌜ modelShown r ≡ orNothing (showsIn (queryForm query) (query .time) (slotsOf (queryForm query) (now (table .entry))) (wordsOf (now (command .entry)))) ⌝ }
-{
-    let form = query.form;
-    let time = query.time;
-    match parse::parse(command, places, count, time, form) {
-        Parsed::Refused(_) => Shown::Nothing,
-        Parsed::Action(action) => {
-            let key = resp::word_at(command, places, 1);
-            let found = live::look_up(table, form, time, key);
-            let target = Target { form, time, found };
-            let value = resp::span_at(places, 2);
-            shown_by(table, target, action, value)
-        }
-    }
-}
-
 // Where the current value of a command stands, if it shows one. A refusal shows none.
 pub fn locate(table: &[u8], time: u64, command: &[u8]) -> Shown
     ensures { λ r. ⌜ modelShown r ≡ currentValue form128 (now (table .entry)) time (now (command .entry)) ⌝ }
 {
-    let room = record::room(Form::Of128);
-    let query = Query {
-        form: Form::Of128,
-        time,
-        room,
-    };
+    if table.len() <= SMALL {
+        let mut heads = [0; 128];
+        let mut next = [0; 16];
+        return locate_with(table, time, command, &mut heads, &mut next);
+    }
+    let mut heads = [0; 2048];
+    let mut next = [0; 256];
+    locate_with(table, time, command, &mut heads, &mut next)
+}
+
+// The same with arrays for the index of the table's keys.
+fn locate_with(table: &[u8], time: u64, command: &[u8], heads: &mut [u8], next: &mut [u8]) -> Shown
+    requires { ⌜ Fresh form128 (now table) (now heads) (now next) ⌝ }
+    ensures { λ r. ⌜ modelShown r ≡ currentValue form128 (now (table .entry)) time (now (command .entry)) ⌝ }
+{
+    let form = Form::Of128;
+    let room = record::room(form);
+    let query = Query { time, room };
     let mut places = [0u16; 32];
-    match crate::entry::gate(table, Form::Of128, time, room, command, &mut places) {
-        Entry::Refused(_) => Shown::Nothing,
-        Entry::Passed(count) => show(table, query, command, &places, count),
+    let count = match crate::entry::gate(table, query, command, &mut places, heads, next) {
+        Entry::Refused(_) => {
+            return Shown::Nothing;
+        }
+        Entry::Passed(count) => count,
+    };
+    match parse::parse(command, &places, count, time, form) {
+        Parsed::Refused(_) => Shown::Nothing,
+        Parsed::Action(action) => {
+            let key = resp::word_at(command, &places, 1);
+            let found = live::look_up(table, form, time, key, heads, next);
+            let target = Target { form, time, found };
+            let value = resp::span_at(&places, 2);
+            shown_by(table, target, action, value)
+        }
     }
 }

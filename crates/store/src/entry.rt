@@ -3,11 +3,12 @@ use record::Form;
 use resp::Count;
 ghost use mathlib.Core.Path.{_≡_};
 ghost use lib.ListN.{length};
-ghost use Rattle.store.specs.Gated.{asked, Gates};
+ghost use Rattle.model.specs.Table.{form128};
+ghost use Rattle.integrity.specs.Check.{Fresh};
+ghost use Rattle.store.specs.Gated.{Gates};
 
-// What is asked of a table: the form of its records, the time of the call, and the length of the reply buffer.
+// What is asked of a table: the time of the call, and the length of the reply buffer.
 pub struct Query {
-    pub form: Form,
     pub time: u64,
     pub room: usize,
 }
@@ -18,30 +19,29 @@ pub enum Entry {
     Refused(u32),
 }
 
-// Tests the table, the time, the room for a reply and the command's bytes, in this order; `places` says where the command's words stand. The
-// form is a parameter by itself, so that it is known where the tests are compiled.
+// Tests the table, the time, the room for a reply and the command's bytes, in this order. `places` says where the command's words stand, `heads`
+// and `next` where the table's keys do. The form is named here, so that it is known where the tests are compiled.
 pub fn gate(
     table: &[u8],
-    form: Form,
-    time: u64,
-    room: usize,
+    query: Query,
     command: &[u8],
     places: &mut [u16; 32],
+    heads: &mut [u8],
+    next: &mut [u8],
 ) -> Entry
     requires { ⌜ length (now places) ≡ 32 ⌝ }
-    ensures { λ r. ⌜ Gates (asked form time room) (now (table .entry)) (now (command .entry)) (now (places .exit)) r ⌝ }
+    requires { ⌜ Fresh form128 (now table) (now heads) (now next) ⌝ }
+    ensures { λ r. ⌜ Gates query (now (table .entry)) (now (command .entry)) (now (places .exit)) (now (heads .exit)) (now (next .exit)) r ⌝ }
 {
+    let form = Form::Of128;
     let least = record::room(form);
-    if !integrity::records_ok(table, form) {
+    if !integrity::check(table, form, heads, next) {
         return Entry::Refused(1);
     }
-    if !integrity::keys_ok(table, form) {
-        return Entry::Refused(1);
-    }
-    if record::TIME_LIMIT < time {
+    if record::TIME_LIMIT < query.time {
         return Entry::Refused(2);
     }
-    if room < least {
+    if query.room < least {
         return Entry::Refused(3);
     }
     let Count::Words(count) = resp::split(command, places) else {

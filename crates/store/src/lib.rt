@@ -10,57 +10,62 @@ use entry::Query;
 use live::Target;
 use record::Form;
 use reply::Answer;
-ghost use mathlib.Core.Path.{_≡_};
-ghost use lib.ListN.{length};
 ghost use Rattle.model.specs.Table.{form128};
 ghost use Rattle.model.specs.Call.{call};
 ghost use Rattle.model.specs.CurrentValue.{currentValue};
-ghost use Rattle.execute.specs.Does.{held};
+ghost use Rattle.integrity.specs.Check.{Fresh};
 ghost use Rattle.store.specs.Called.{Called};
 ghost use Rattle.store.specs.Shows.{Shows};
-ghost use Rattle.store.specs.Gated.{Entered, Runs};
 
-// Carries out a command that passed the gate.
-fn run(
-    table: &mut [u8],
-    query: Query,
-    command: &[u8],
-    places: &[u16; 32],
-    count: usize,
-    reply: &mut [u8],
-) -> Answer
-    requires { ⌜ Entered query (now table) (now command) (now places) count ⌝ }
-    requires { ⌜ query .room ≡ length (now reply) ⌝ }
-    ensures { λ r. ⌜ Runs query (now (command .entry)) (held (now (table .entry)) (now (reply .entry))) (held (now (table .exit)) (now (reply .exit))) r ⌝ }
-{
-    let form = query.form;
-    let time = query.time;
-    match parse::parse(command, places, count, time, form) {
-        Parsed::Refused(number) => reply::error(reply, number),
-        Parsed::Action(action) => {
-            let key = resp::word_at(command, places, 1);
-            let value = resp::word_or_empty(command, places, count, 2);
-            let found = live::look_up(table, form, time, key);
-            let target = Target { form, time, found };
-            execute::execute(table, target, key, value, action, reply)
-        }
-    }
-}
+// The longest table for which the smaller arrays of the index do: 16 records.
+const SMALL: usize = 2048;
 
-// Applies one command to a table: document 01's number, the reply's length, the reply and the changed table.
+// Applies one command to a table: document 01's number, the reply's length, the reply and the changed table. The index is as large as the table
+// asks, since it costs time to make.
 pub fn call(table: &mut [u8], time: u64, command: &[u8], reply: &mut [u8]) -> Answer
     ensures { λ r. ⌜ Called (call form128 (now (table .entry)) time (now (command .entry)) (now (reply .entry))) r (now (table .exit)) (now (reply .exit)) ⌝ }
 {
+    if table.len() <= SMALL {
+        let mut heads = [0; 128];
+        let mut next = [0; 16];
+        return call_with(table, time, command, reply, &mut heads, &mut next);
+    }
+    let mut heads = [0; 2048];
+    let mut next = [0; 256];
+    call_with(table, time, command, reply, &mut heads, &mut next)
+}
+
+// The same with arrays for the index of the table's keys.
+fn call_with(
+    table: &mut [u8],
+    time: u64,
+    command: &[u8],
+    reply: &mut [u8],
+    heads: &mut [u8],
+    next: &mut [u8],
+) -> Answer
+    requires { ⌜ Fresh form128 (now table) (now heads) (now next) ⌝ }
+    ensures { λ r. ⌜ Called (call form128 (now (table .entry)) time (now (command .entry)) (now (reply .entry))) r (now (table .exit)) (now (reply .exit)) ⌝ }
+{
+    let form = Form::Of128;
     let room = reply.len();
-    let query = Query {
-        form: Form::Of128,
-        time,
-        room,
-    };
+    let query = Query { time, room };
     let mut places = [0u16; 32];
-    match entry::gate(table, Form::Of128, time, room, command, &mut places) {
-        Entry::Refused(number) => Answer { number, len: 0 },
-        Entry::Passed(count) => run(table, query, command, &places, count, reply),
+    let count = match entry::gate(table, query, command, &mut places, heads, next) {
+        Entry::Refused(number) => {
+            return Answer { number, len: 0 };
+        }
+        Entry::Passed(count) => count,
+    };
+    match parse::parse(command, &places, count, time, form) {
+        Parsed::Refused(number) => reply::error(reply, number),
+        Parsed::Action(action) => {
+            let key = resp::word_at(command, &places, 1);
+            let value = resp::word_or_empty(command, &places, count, 2);
+            let found = live::look_up(table, form, time, key, heads, next);
+            let target = Target { form, time, found };
+            execute::execute(table, target, key, value, action, reply)
+        }
     }
 }
 
