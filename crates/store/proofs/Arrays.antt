@@ -16,5 +16,6 @@ pub fresh : (t : List ℕ) (m k : ℕ) → 1 ≤ m → (length t / 128 ≤ 256 �
 fresh t m k some room = record {
   some = rw (length-replicate m) some;
   none = zeros-at m;
+  blank = zeros-at k;
   room = λ h. rw (length-replicate k) (room h);
 }

@@ -113,14 +113,14 @@ called e = record {
 }
 
 module _ (q : Query) (t c : List ℕ) where
-  gate-refused : {places heads next : List ℕ} {r : Entry} → Gates q t c places heads next r → {n : ℕ} → r ≡ Refused n → gateIn q t c ≡ refuse n
+  pub gate-refused : {places heads next : List ℕ} {r : Entry} → Gates q t c places heads next r → {n : ℕ} → r ≡ Refused n → gateIn q t c ≡ refuse n
   gate-refused g e = refuses (gateIn q t c) (λ (i : Inputs). length (i .words)) (ap checkedEntry (sym e) ∙ g .answer)
 
   -- a call whose reply buffer has q's room
   module _ {b : List ℕ} (room : q .room ≡ length b) where
-    pub called-refused : {places heads next : List ℕ} {r : Entry} → Gates q t c places heads next r → {n : ℕ} → r ≡ Refused n → Called (call form128 t (q .time) c b) (record { number = n; len = 0 }) t b
+    pub called-refused : {n : ℕ} → gateIn q t c ≡ refuse n → Called (call form128 t (q .time) c b) (record { number = n; len = 0 }) t b
     unfolding call
-    called-refused g e = called (rw (← room, gate-refused g e))
+    called-refused e = called (rw (← room, e))
 
     pub called-passed : {places : List ℕ} {n : ℕ} → Entered q t c places n → {new : Held} {a : Answer} → Runs q c (held t b) new a
         → Called (call form128 t (q .time) c b) a (new .table) (new .reply)
@@ -132,9 +132,9 @@ module _ (q : Query) (t c : List ℕ) where
     least : {x : Checked Inputs} → gateIn q t c ≡ x → gate form128 t (q .time) (form128 .replyRoom) c ≡ x
     least e = ap (λ (n : ℕ). gate form128 t (q .time) n c) (sym room) ∙ e
 
-    pub value-refused : {places heads next : List ℕ} {r : Entry} → Gates q t c places heads next r → {n : ℕ} → r ≡ Refused n → nothing ≡ currentValue form128 t (q .time) c
+    pub value-refused : {n : ℕ} → gateIn q t c ≡ refuse n → nothing ≡ currentValue form128 t (q .time) c
     unfolding currentValue
-    value-refused g e = rw (least (gate-refused g e))
+    value-refused e = rw (least e)
 
     pub value-passed : {places : List ℕ} {n : ℕ} → Entered q t c places n → {s : Shown} → s ≡ orNothing (showsIn form128 (q .time) (slotsOf form128 t) (wordsOf c))
         → s ≡ currentValue form128 t (q .time) c

@@ -1,4 +1,4 @@
--- What the gate answers, and what holds of a call that passed it. t, c and places are the bytes of the table and the command, and the array of its words' places; heads and next are the arrays of the index.
+-- What the gate answers, what holds of a call that passed it, and what a command comes to before it is carried out. t, c and places are the bytes of the table and the command, and the array of its words' places; heads and next are the arrays of the index.
 use Prim.Native.Nat.{ℕ, _≤_}
 use mathlib.Core.Path.{_≡_}
 use mathlib.Core.List.{List}
@@ -6,16 +6,22 @@ use lib.ListN.{length}
 use Rattle.model.specs.Checked.{Checked, refuse, ok, _>>=_}
 use Rattle.model.specs.Table.{form128, timeLimit}
 use Rattle.model.specs.Gate.{Inputs, gate}
-use Rattle.model.specs.Parse.{parse}
+use Rattle.model.specs.Parse.{wordAt, parse}
 use Rattle.model.specs.Execute.{execute}
 use Rattle.table.specs.Slots.{Reads, slotsOf}
 use Rattle.table.specs.Index.{Indexed}
 use Rattle.resp.specs.Spans.{wordsOf, Splits}
+use Rattle.command.specs.Command.{checkedParsed}
+use Rattle.command.specs.declared.Parsed.the-variants as Parsed
+use Rattle.live.specs.Under.{IsUnder}
 use Rattle.reply.specs.declared.Answer.{Answer}
 use Rattle.execute.specs.Does.{Held, Does}
 use Rattle.store.specs.declared.entry.Query.{Query}
 use Rattle.store.specs.declared.entry.Entry.{Entry}
 use Rattle.store.specs.declared.entry.Entry.the-variants.{Passed, Refused}
+use Rattle.store.specs.declared.entry.Ready.{Ready}
+use Rattle.store.specs.declared.entry.Prepared.{Prepared}
+use Rattle.store.specs.declared.entry.Prepared.the-variants as Prepared
 
 -- the number of words, or the number of the refusal
 abbrev pub checkedEntry : Entry → Checked ℕ
@@ -40,6 +46,24 @@ pub record Gates (q : Query) (t c places heads next : List ℕ) (r : Entry) : Ty
   pub answer : checkedEntry r ≡ (gateIn q t c >>= λ (i : Inputs). ok (length (i .words)))
   pub passed : (n : ℕ) → r ≡ Passed n → Entered q t c places n
   pub index : (n : ℕ) → r ≡ Passed n → Indexed form128 t 0 heads next
+
+-- a command that its own words refuse
+pub record IsWrong (q : Query) (t c places : List ℕ) (number : ℕ) : Type 0 where
+  pub count : ℕ
+  pub entered : Entered q t c places count
+  pub parsed : checkedParsed (wordsOf c) (Parsed.Refused number) ≡ parse form128 (q .time) (wordsOf c)
+
+-- a command that is ready to be carried out
+pub record IsReady (q : Query) (t c places : List ℕ) (r : Ready) : Type 0 where
+  pub entered : Entered q t c places (r .count)
+  pub parsed : checkedParsed (wordsOf c) (Parsed.Action (r .action)) ≡ parse form128 (q .time) (wordsOf c)
+  pub under : IsUnder form128 t (q .time) (wordAt 1 (wordsOf c)) (r .found)
+
+-- what a command comes to before it is carried out
+abbrev pub Prepares : Query → (t c places : List ℕ) → Prepared → Type 0
+Prepares q t c places (Prepared.Refused n) = gateIn q t c ≡ refuse n
+Prepares q t c places (Prepared.Wrong n) = IsWrong q t c places n
+Prepares q t c places (Prepared.Ready r) = IsReady q t c places r
 
 -- the answer a and the bytes, from `old` to `new`, are those of the command c after the gate
 abbrev pub Runs : Query → (c : List ℕ) → (old new : Held) → Answer → Type 0

@@ -1,10 +1,9 @@
 // Where the current value of a key stands after an EXGET or EXCAS, found without doing the command: a part of the table or of the command.
 use crate::SMALL;
-use crate::entry::Entry;
+use crate::entry::Prepared;
 use crate::entry::Query;
 use command::Action;
 use command::Change;
-use command::Parsed;
 use live::Lookup;
 use live::Target;
 use live::Version;
@@ -101,17 +100,12 @@ fn locate_with(table: &[u8], time: u64, command: &[u8], heads: &mut [u8], next: 
     let room = record::room(form);
     let query = Query { time, room };
     let mut places = [0u16; 32];
-    let count = match crate::entry::gate(table, query, command, &mut places, heads, next) {
-        Entry::Refused(_) => {
-            return Shown::Nothing;
-        }
-        Entry::Passed(count) => count,
-    };
-    match parse::parse(command, &places, count, time, form) {
-        Parsed::Refused(_) => Shown::Nothing,
-        Parsed::Action(action) => {
-            let key = resp::word_at(command, &places, 1);
-            let found = live::look_up(table, form, time, key, heads, next);
+    match crate::entry::prepare(table, query, command, &mut places, heads, next) {
+        Prepared::Refused(_) => Shown::Nothing,
+        Prepared::Wrong(_) => Shown::Nothing,
+        Prepared::Ready(ready) => {
+            let action = ready.action;
+            let found = ready.found;
             let target = Target { form, time, found };
             let value = resp::span_at(&places, 2);
             shown_by(table, target, action, value)

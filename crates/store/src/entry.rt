@@ -1,11 +1,14 @@
-// Tests 1 to 4, which come before a command's own.
+// What comes before a command is carried out: tests 1 to 4, its parse, and the search for its key.
+use command::Action;
+use command::Parsed;
+use live::Lookup;
 use record::Form;
 use resp::Count;
 ghost use mathlib.Core.Path.{_≡_};
 ghost use lib.ListN.{length};
 ghost use Rattle.model.specs.Table.{form128};
 ghost use Rattle.integrity.specs.Check.{Fresh};
-ghost use Rattle.store.specs.Gated.{Gates};
+ghost use Rattle.store.specs.Gated.{Gates, Prepares};
 
 // What is asked of a table: the time of the call, and the length of the reply buffer.
 pub struct Query {
@@ -48,4 +51,53 @@ pub fn gate(
         return Entry::Refused(4);
     };
     Entry::Passed(count)
+}
+
+// A command that passed every test before its execution: what it does, what stands under its key, and how many words it has.
+pub struct Ready {
+    pub action: Action,
+    pub found: Lookup,
+    pub count: usize,
+}
+
+// What is known before a command is carried out: tests 1 to 4 refuse it, and it has no reply; tests 5 to 11 do; or it is ready.
+pub enum Prepared {
+    Refused(u32),
+    Wrong(u32),
+    Ready(Ready),
+}
+
+// Takes a command through the gate, parses it and looks its key up.
+pub fn prepare(
+    table: &[u8],
+    query: Query,
+    command: &[u8],
+    places: &mut [u16; 32],
+    heads: &mut [u8],
+    next: &mut [u8],
+) -> Prepared
+    requires { ⌜ length (now places) ≡ 32 ⌝ }
+    requires { ⌜ Fresh form128 (now table) (now heads) (now next) ⌝ }
+    ensures { λ r. ⌜ Prepares query (now (table .entry)) (now (command .entry)) (now (places .exit)) r ⌝ }
+{
+    let form = Form::Of128;
+    let time = query.time;
+    let count = match gate(table, query, command, places, heads, next) {
+        Entry::Refused(number) => {
+            return Prepared::Refused(number);
+        }
+        Entry::Passed(count) => count,
+    };
+    match parse::parse(command, places, count, time, form) {
+        Parsed::Refused(number) => Prepared::Wrong(number),
+        Parsed::Action(action) => {
+            let key = resp::word_at(command, places, 1);
+            let found = live::look_up(table, form, time, key, heads, next);
+            Prepared::Ready(Ready {
+                action,
+                found,
+                count,
+            })
+        }
+    }
 }

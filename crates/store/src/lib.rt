@@ -2,10 +2,9 @@
 mod current;
 mod entry;
 
-use command::Parsed;
 pub use current::Shown;
 pub use current::locate;
-use entry::Entry;
+use entry::Prepared;
 use entry::Query;
 use live::Target;
 use record::Form;
@@ -47,23 +46,19 @@ fn call_with(
     requires { ⌜ Fresh form128 (now table) (now heads) (now next) ⌝ }
     ensures { λ r. ⌜ Called (call form128 (now (table .entry)) time (now (command .entry)) (now (reply .entry))) r (now (table .exit)) (now (reply .exit)) ⌝ }
 {
-    let form = Form::Of128;
     let room = reply.len();
     let query = Query { time, room };
     let mut places = [0u16; 32];
-    let count = match entry::gate(table, query, command, &mut places, heads, next) {
-        Entry::Refused(number) => {
-            return Answer { number, len: 0 };
-        }
-        Entry::Passed(count) => count,
-    };
-    match parse::parse(command, &places, count, time, form) {
-        Parsed::Refused(number) => reply::error(reply, number),
-        Parsed::Action(action) => {
-            let key = resp::word_at(command, &places, 1);
-            let value = resp::word_or_empty(command, &places, count, 2);
-            let found = live::look_up(table, form, time, key, heads, next);
+    match entry::prepare(table, query, command, &mut places, heads, next) {
+        Prepared::Refused(number) => Answer { number, len: 0 },
+        Prepared::Wrong(number) => reply::error(reply, number),
+        Prepared::Ready(ready) => {
+            let action = ready.action;
+            let found = ready.found;
+            let form = Form::Of128;
             let target = Target { form, time, found };
+            let key = resp::word_at(command, &places, 1);
+            let value = resp::word_or_empty(command, &places, ready.count, 2);
             execute::execute(table, target, key, value, action, reply)
         }
     }

@@ -19,7 +19,7 @@ use Rattle.count.proofs.sum.Tie as tie
 sum-is : (c : tie.After-add) → let a = c .before .before .args in c .add .result ≡ sumFrom (a .stored +ℤ a .increment .by)
 sum-is c =
     let s = c .before in
-    let f : SFits w64 (s .before .args .increment .by) = record { sfits = s .struct-told .given .0 .1 } in
+    let f : SFits w64 (s .before .args .increment .by) = record { sfits = s .struct-told .given .1 .1 .1 .0 .1 } in
     simp (back-is (s .before .fits .stored), back-is f) at (c .add .ensures)
 
 fitting : (c : tie.After-z) → let a = c .before .before .before .before .args in sumFrom (a .stored +ℤ a .increment .by) ≡ Fits (c .z .given .0 .0)
