@@ -32,7 +32,7 @@ pub fn records_ok(table: &[u8], form: Form) -> bool
     }
     let mut i = 0;
     while i < n {
-        if !record::readable(table::slot(table, form, i), form, &slice::MASK) {
+        if !record::readable(table::slot(table, form, i), form) {
             return false;
         }
         i += 1;

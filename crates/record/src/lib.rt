@@ -13,6 +13,7 @@ pub use fields::is_live;
 pub use fields::key;
 pub use fields::value;
 pub use fields::version;
+pub use valid::is_record;
 pub use valid::readable;
 pub use writes::clear;
 pub use writes::join;

@@ -1,7 +1,7 @@
 -- `integrity::records_ok` meets its contract. The loop's invariant: the table reads if the records from the i-th on do.
 use Prim.Native.Nat.{ℕ, _+_, _-_, _*_, _/_, _%_, _≤_}
 use native.Mathlib.Nat.{div-add-mod'}
-use mathlib.Core.Path.{_≡_, refl, sym, ap, _∙_}
+use mathlib.Core.Path.{_≡_, sym, ap, _∙_}
 use mathlib.Core.Bool.{true, _&&_}
 use lib.Dec.{eqb}
 use mathlib.Core.List.{List}
@@ -19,12 +19,12 @@ use Rattle.integrity.proofs.records_ok.Statement.{statement}
 use Rattle.integrity.proofs.records_ok.Tie as tie
 
 abbrev Inv-loop : tie.InvT-loop
-Inv-loop table form n i₀ t5 i =
+Inv-loop table form n i₀ i =
     let f = formOf form in
     (i ≤ n) × (n ≡ length table / recordSize f) × (n * recordSize f ≡ length table) × (isSome (readTable f table) ≡ readFrom f n i table)
 
 abbrev μ-loop : tie.MeasureT-loop
-μ-loop table form n i₀ t5 i = n - i
+μ-loop table form n i₀ i = n - i
 
 -- what is known of the length once it is a whole number of records
 length-told : (c : tie.Else1 Inv-loop μ-loop)
@@ -83,29 +83,29 @@ slot-requires c κs =
 
 readable-requires : tie.Need-readable-requires Inv-loop μ-loop
 readable-requires c κs =
-    let l = c .before .before .before in
+    let l = c .before .before in
     let s = l .before .before .before .before .before .before .before in
     let f = formOf (s .args .form) in
     let within = inside f (l .before .before .before .before .before .count .result) (l .loop .i) (omega arith) in
-    (ap length (c .before .slot .ensures) ∙ length-slot f (s .args .table .now) (l .loop .i) (omega (arith, within, l .loop .inv .2)), refl)
+    ap length (c .slot .ensures) ∙ length-slot f (s .args .table .now) (l .loop .i) (omega (arith, within, l .loop .inv .2))
 
 -- what the call said of the record, in the invariant
 told : (c : tie.After-readable Inv-loop μ-loop)
-    → let l = c .before .before .before .before in
+    → let l = c .before .before .before in
     let s = l .before .before .before .before .before .before .before in
     let f = formOf (s .args .form) in
     isSome (readTable f (s .args .table .now)) ≡ c .readable .result && readFrom f (l .before .before .before .before .before .count .result) (l .loop .i + 1) (s .args .table .now)
 told c =
-    let l = c .before .before .before .before in
+    let l = c .before .before .before in
     let s = l .before .before .before .before .before .before .before in
     let f = formOf (s .args .form) in
     let t = s .args .table .now in
-    let said = c .readable .ensures ∙ ap (λ (b : List ℕ). isSome (readSlot f b)) (c .before .before .slot .ensures) in
+    let said = c .readable .ensures ∙ ap (λ (b : List ℕ). isSome (readSlot f b)) (c .before .slot .ensures) in
     l .loop .inv .3 ∙ read-next f _ t (l .loop .i) (omega arith) ∙ ap (λ b. b && readFrom f (l .before .before .before .before .before .count .result) (l .loop .i + 1) t) (sym said)
 
 loop-again : tie.Need-loop-again Inv-loop μ-loop
 loop-again c =
-    let l = c .before .before .before .before .before in
+    let l = c .before .before .before .before in
     (omega arith, l .loop .inv .1, l .loop .inv .2, told (c .before) ∙ rw (not-false (c .before .readable .result) (c .if4 .left)))
 
 returns-5 : tie.Need-returns-5 Inv-loop μ-loop
