@@ -66,7 +66,7 @@ fn enter(r: &[u8], form: Form, slot: usize, heads: &mut [u8], next: &mut [u8]) -
         }
         return Entered::Damaged;
     }
-    if !record::is_record(r, form, &slice::MASK) {
+    if !record::is_record(r, form) {
         return Entered::Damaged;
     }
     let first = table::enter(heads, next, slot, &r[KEY_AT..VALUE_AT]);

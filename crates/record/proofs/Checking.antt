@@ -36,7 +36,7 @@ module _ (at n k : ℕ) (b : List ℕ) (fits : at + n ≤ length b) (h : k ≤ n
 
   -- zeros after k bytes: the part is these k, padded
   zerosFrom-rest : zerosFrom k (part at n b) ≡ same (part (at + k) (n - k) b) (replicate (n - k) 0)
-  zerosFrom-rest = rw (tail-is, length-part at n b fits)
+  zerosFrom-rest = rw (tail-is, length-part (at + k) (n - k) b (omega arith))
 
   pub zeros-padded : zerosFrom k (part at n b) ≡ true → part at n b ≡ padded n (part at k b)
   zeros-padded z =

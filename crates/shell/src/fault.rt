@@ -86,7 +86,7 @@ pub fn fault_of(r: &[u8]) -> u32
     requires { ⌜ length (now r) ≡ 128 ⌝ }
     ensures { λ n. ⌜ eqb n 0 ≡ isSome (readSlot form128 (now (r .entry))) ⌝ }
 {
-    if record::readable(r, Form::Of128, &slice::MASK) {
+    if record::readable(r, Form::Of128) {
         return 0;
     }
     broken_rule(r)

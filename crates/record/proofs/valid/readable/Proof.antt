@@ -13,7 +13,7 @@ returns : tie.Need-returns
 returns c =
     let s = c .before .before .before .before in
     let b = s .args .r .now in
-    c .is-zero .ensures ∙ ap (λ (n : ℕ). same b (replicate n 0)) (s .pre .0) ∙ sym (readable-zero (formOf (s .args .form)) b (c .before .if1 .taken))
+    c .is-zero .ensures ∙ ap (λ (n : ℕ). same b (replicate n 0)) (s .pre) ∙ sym (readable-zero (formOf (s .args .form)) b (c .before .if1 .taken))
 
 returns-2 : tie.Need-returns-2
 returns-2 c = let s = c .before .before .before .before in c .is-record .ensures ∙ sym (readable-other (formOf (s .args .form)) (s .args .r .now) (c .before .if1 .left))
