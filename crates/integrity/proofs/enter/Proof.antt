@@ -32,19 +32,19 @@ zeros-told c =
     c .is-zero .ensures ∙ ap (λ (n : ℕ). same r (replicate n 0)) (s .pre .0) ∙ sym (read-unused (formOf (s .args .form)) r (unused (c .before)))
 
 -- those in use, by their test
-record-told : (c : tie.After-is-record) → let s = c .before .before .before .before .before .before .before in
+record-told : (c : tie.After-is-record) → let s = c .before .before .before .before .before .before in
     c .is-record .result ≡ isSome (readSlot (formOf (s .args .form)) (s .args .r .now))
 record-told c =
-    let s = c .before .before .before .before .before .before .before in
-    c .is-record .ensures ∙ sym (read-used (formOf (s .args .form)) (s .args .r .now) (used (c .before .before)))
+    let s = c .before .before .before .before .before .before in
+    c .is-record .ensures ∙ sym (read-used (formOf (s .args .form)) (s .args .r .now) (used (c .before)))
 
 -- a record in use is entered
-entered : (c : tie.After-enter) → let s = c .before .before .before .before .before .before .before .before .before .before .before .before in
+entered : (c : tie.After-enter) → let s = c .before .before .before .before .before .before .before .before .before .before .before in
     (first : ℕ) → c .enter .result ≡ first
     → EntersUsed (s .args .slot) (s .args .r .now) (s .args .heads .now) (s .args .next .now) first (c .enter .last .0) (c .enter .last .1 .0)
 entered c first e =
-    let s = c .before .before .before .before .before .before .before .before .before .before .before .before in
-    let u = used (c .before .before .before .before .before .before .before) in
+    let s = c .before .before .before .before .before .before .before .before .before .before .before in
+    let u = used (c .before .before .before .before .before .before) in
     record {
       used = λ _. subst (λ (n : ℕ). Enters (s .args .slot) (part 24 24 (s .args .r .now)) (s .args .heads .now) (s .args .next .now) n (c .enter .last .0) (c .enter .last .1 .0)) e (c .enter .ensures);
       unused = λ n. never _ u n;
@@ -63,7 +63,7 @@ returns-5 : tie.Need-returns-5
 returns-5 c =
     let e = c .before .before .before .before .before in
     let p = e .before .before .before .before in
-    (sym (record-told (p .before)) ∙ not-false (p .before .is-record .result) (p .if3 .left), used (p .before .before .before), entered e _ refl)
+    (sym (record-told (p .before)) ∙ not-false (p .before .is-record .result) (p .if3 .left), used (p .before .before), entered e _ refl)
 
 pub enter-spec : {M : Type 1} → statement M
 enter-spec =
