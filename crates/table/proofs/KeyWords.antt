@@ -1,26 +1,15 @@
 -- The words of a key with the zeros after it, by the bytes of the key alone.
 use Prim.Native.Nat.{ℕ, zero, suc, _+_, _-_, _*_, _/_, _^_, _≤_, _<_}
-use native.Mathlib.Nat.{pow-le-pow-right, div-one, zero-div, div-div-eq-div-mul, mul-zero, add-zero}
+use native.Mathlib.Nat.{pow-le-pow-right, mul-zero, add-zero}
 use native.Mathlib.Omega.{arith}
 use mathlib.Core.Path.{_≡_, refl, sym, ap, _∙_}
-use mathlib.Core.List.{List, [], _∷_, _++_}
+use mathlib.Core.List.{List, _++_}
 use lib.ListN.{length, getD, take, drop, replicate, length-drop, drop-of-length-le}
-use lib.Pow.{pow-add}
 use lib.Seq.{drop-cons, drop-drop, take-all, take-append-le, take-append-add, drop-append-le, drop-append-add}
 use Rattle.model.specs.Bytes.{part, padded, fromLittleEndian}
 use Rattle.slice.proofs.Written.{drop-replicate}
-use Rattle.slice.proofs.LittleEndian.{Bytes, bytes-drop, bytes-part, from-bound, from-append}
+use Rattle.slice.proofs.LittleEndian.{Bytes, bytes-drop, bytes-part, from-bound, from-shifted, from-append}
 use Rattle.table.specs.Hash.{wordAt}
-
--- TEMPORARY until slice has it
-from-shifted : (j : ℕ) (s : List ℕ) → Bytes s → fromLittleEndian s / 2 ^ (8 * j) ≡ fromLittleEndian (drop j s)
-unfolding fromLittleEndian
-from-shifted zero s h = div-one (fromLittleEndian s)
-from-shifted (suc j) [] h = zero-div (2 ^ (8 * suc j))
-from-shifted (suc j) (x ∷ s) h =
-    let e : 8 * suc j ≡ 8 + 8 * j = omega arith in
-    let high : (x + 256 * fromLittleEndian s) / 256 ≡ fromLittleEndian s = omega (arith, h 0) in
-    rw (e, pow-add 2 8 (8 * j), ← div-div-eq-div-mul, high) (from-shifted j s (λ i. h (suc i)))
 
 -- zeros make no number
 from-zeros : (m n : ℕ) → fromLittleEndian (take m (replicate n 0)) ≡ 0

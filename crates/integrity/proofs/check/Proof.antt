@@ -50,7 +50,9 @@ count-told c = sym (c .before .before .count .ensures)
 
 sizes-told : (c : tie.Else3 Inv-loop μ-loop) → let s = c .before .before .before .before .before .before .before .before in
     all (sizeRules (formOf (s .args .form)) (s .args .table .now)) ≡ true
-sizes-told c = rw (whole-told (c .before .before), count-told (c .before .before), le-leb 1 _ (c .before .if2 .left), le-leb _ 256 (c .if3 .left))
+sizes-told c =
+    let n = c .before .before .before .before .count .result in
+    rw (whole-told (c .before .before), count-told (c .before .before), le-leb 1 n (omega arith), le-leb n 256 (omega arith))
 
 mul-if1 : tie.Need-mul-if1 Inv-loop μ-loop
 mul-if1 c =
@@ -72,13 +74,14 @@ returns c =
 returns-2 : tie.Need-returns-2 Inv-loop μ-loop
 returns-2 c =
     let s = c .before .before .before .before .before .before .before in
-    refused s (wrong-size (formOf (s .args .form)) (s .args .table .now) (rw (whole-told (c .before), count-told (c .before), lt-leb 1 _ (c .if2 .taken))))
+    refused s (wrong-size (formOf (s .args .form)) (s .args .table .now) (rw (whole-told (c .before), count-told (c .before), lt-leb 1 (c .before .before .before .count .result) (omega arith))))
 
 returns-3 : tie.Need-returns-3 Inv-loop μ-loop
 returns-3 c =
     let s = c .before .before .before .before .before .before .before .before in
+    let n = c .before .before .before .before .count .result in
     refused s (wrong-size (formOf (s .args .form)) (s .args .table .now)
-    (rw (whole-told (c .before .before), count-told (c .before .before), le-leb 1 _ (c .before .if2 .left), lt-leb _ 256 (c .if3 .taken))))
+    (rw (whole-told (c .before .before), count-told (c .before .before), le-leb 1 n (omega arith), lt-leb n 256 (omega arith))))
 
 loop-holds : tie.Need-loop-holds Inv-loop μ-loop
 loop-holds c =

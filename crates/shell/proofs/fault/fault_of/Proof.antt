@@ -1,13 +1,10 @@
 -- `fault::fault_of` meets its contract: a record breaks no rule, and what is none breaks one.
 use native.Mathlib.Omega.{arith}
-use mathlib.Core.Path.{refl, sym, _∙_}
+use mathlib.Core.Path.{sym, _∙_}
 use borrow.Author.Needs.{needs}
 use borrow.Author.Tests.{ne-eqb}
 use Rattle.shell.proofs.fault.fault_of.Statement.{statement}
 use Rattle.shell.proofs.fault.fault_of.Tie as tie
-
-readable-requires : tie.Need-readable-requires
-readable-requires c κs = (c .before .before .pre, refl)
 
 returns : tie.Need-returns
 returns c = sym (c .if1 .taken) ∙ c .before .readable .ensures
@@ -19,7 +16,7 @@ pub fault-of-spec : {M : Type 1} → statement M
 fault-of-spec =
     tie.close
     (tie.spec
-    readable-requires
+    (λ c κs. search needs)
     returns
     (λ c κs. search needs)
     returns-2)

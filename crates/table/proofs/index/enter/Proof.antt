@@ -20,7 +20,7 @@ head-told : (c : tie.Joined1) → let a = c .before .before .before .before .bef
     c .if1 .heads ≡ cond (ltb 0 (a .slot)) (set (a .heads .now) (c .before .before .bucket .result) (a .slot)) (a .heads .now)
 head-told c =
     let slot = c .before .before .before .before .before .before .before .args .slot in
-    ⊎-elim (λ w. rw (lt-ltb 0 slot (w .0 .taken)) (w .1)) (λ w. rw (le-ltb 0 slot (w .0 .left)) (w .1)) (c .if1 .came)
+    ⊎-elim (λ w. rw (lt-ltb 0 slot (omega arith)) (w .1)) (λ w. rw (le-ltb 0 slot (omega arith)) (w .1)) (c .if1 .came)
 
 same-heads : (c : tie.Joined1) → length (c .if1 .heads) ≡ length (c .before .before .before .before .before .before .before .args .heads .now)
 same-heads c = ⊎-elim (λ w. ap length (w .1) ∙ simp length-set) (λ w. ap length (w .1)) (c .if1 .came)

@@ -13,8 +13,8 @@ use Rattle.table.proofs.Search.{Searched, lowest-start, search-here, se
 use Rattle.table.proofs.Parts.{slot-expired, slot-readable}
 use native.Mathlib.Omega.{arith}
 use borrow.Author.Needs.{needs}
-use Rattle.table.proofs.free.expired_slot.Statement.{statement}
-use Rattle.table.proofs.free.expired_slot.Tie as tie
+use Rattle.table.proofs.lookup.expired_slot.Statement.{statement}
+use Rattle.table.proofs.lookup.expired_slot.Tie as tie
 
 abbrev Inv-loop : tie.InvT-loop
 Inv-loop table form time n i₀ i = Searched (isExpired time) (slotsOf (formOf form) table) (lowest (isExpired time) (slotsOf (formOf form) table)) n i

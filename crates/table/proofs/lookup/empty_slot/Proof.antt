@@ -15,8 +15,8 @@ use Rattle.table.proofs.Search.{Searched, lowest-start, search-here, se
 use Rattle.table.proofs.Parts.{slot-is, slot-readable}
 use native.Mathlib.Omega.{arith}
 use borrow.Author.Needs.{needs}
-use Rattle.table.proofs.free.empty_slot.Statement.{statement}
-use Rattle.table.proofs.free.empty_slot.Tie as tie
+use Rattle.table.proofs.lookup.empty_slot.Statement.{statement}
+use Rattle.table.proofs.lookup.empty_slot.Tie as tie
 
 abbrev Inv-loop : tie.InvT-loop
 Inv-loop table form n i₀ i = Searched isEmpty (slotsOf (formOf form) table) (lowest isEmpty (slotsOf (formOf form) table)) n i

@@ -4,8 +4,8 @@ use Rattle.record.specs.Forms.{formOf}
 use Rattle.table.specs.Slots.{slotsOf, slotOf}
 use Rattle.table.proofs.Search.{free-empty, free-expired}
 use borrow.Author.Needs.{needs}
-use Rattle.table.proofs.free.free_slot.Statement.{statement}
-use Rattle.table.proofs.free.free_slot.Tie as tie
+use Rattle.table.proofs.lookup.free_slot.Statement.{statement}
+use Rattle.table.proofs.lookup.free_slot.Tie as tie
 
 enum-told : tie.Need-enum-told
 enum-told c = search needs
