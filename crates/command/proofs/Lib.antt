@@ -1,4 +1,3 @@
 -- Laws of the codes of keywords and of rules.
 pub mod Codes
-pub mod Letters
 pub mod Bits

@@ -1,24 +1,35 @@
--- `keyword::name_of` meets its contract: a number of an arm is that of one word alone, and each word of the model's table has its arm.
+-- `keyword::name_of` meets its contract: its tests are the rows of the model's table, in their order. At the place eI test I has failed; where all
+-- have, no row is left.
 use borrow.Author.Needs.{needs}
-use mathlib.Core.Path.{refl, sym, ap}
-use Rattle.model.specs.Bytes.{text, uppers}
-use Rattle.model.specs.Checked.{given}
+use mathlib.Core.List.{[]}
+use Rattle.model.specs.Bytes.{littleEndian}
 use Rattle.model.specs.Command.{names}
-use Rattle.command.proofs.Codes.{FoundAs, found-as, not-found}
+use Rattle.command.proofs.Codes.{all-left, by-rest, found, passed}
 use Rattle.command.proofs.keyword.name_of.Statement.{statement}
 use Rattle.command.proofs.keyword.name_of.Tie as tie
 
-found : (c : tie.After-code-of) → FoundAs 5 names (uppers (c .before .before .args .w .now)) (c .code-of .result)
-found c = found-as 5 names (uppers (c .before .before .args .w .now)) (c .code-of .ensures)
-
 pub name-of-spec : {M : Type 1} → statement M
+unfolding littleEndian
 name-of-spec =
     tie.close
     (tie.spec
-    (λ c κs. search needs)
-    (λ c. found (c .before) (text "EXSET") refl (c .match .keys1)) (λ c. found (c .before) (text "EXGET") refl (c .match .keys2))
-    (λ c. found (c .before) (text "EXSETVER") refl (c .match .keys3)) (λ c. found (c .before) (text "EXINCRBY") refl (c .match .keys4))
-    (λ c. found (c .before) (text "EXCAS") refl (c .match .keys5)) (λ c. found (c .before) (text "EXCAD") refl (c .match .keys6))
-    (λ c. found (c .before) (text "EXAPPEND") refl (c .match .keys7)) (λ c. found (c .before) (text "EXPREPEND") refl (c .match .keys8))
-    (λ c. found (c .before) (text "EXGAE") refl (c .match .keys9)) (λ c. found (c .before) (text "DEL") refl (c .match .keys10))
-    (λ c. sym (ap (given 5) (not-found (uppers (c .before .before .before .args .w .now)) (c .before .code-of .ensures) names refl (c .match .rest)))))
+    (λ c κs. search needs) (λ c. found (c .before .spells .ensures) (c .if1 .taken) 5 names)
+    (λ c κs. search needs) (λ c. found (c .before .spells2 .ensures) (c .if2 .taken) 5 names)
+    (λ c κs. search needs) (λ c. found (c .before .spells3 .ensures) (c .if3 .taken) 5 names)
+    (λ c κs. search needs) (λ c. found (c .before .spells4 .ensures) (c .if4 .taken) 5 names)
+    (λ c κs. search needs) (λ c. found (c .before .spells5 .ensures) (c .if5 .taken) 5 names)
+    (λ c κs. search needs) (λ c. found (c .before .spells6 .ensures) (c .if6 .taken) 5 names)
+    (λ c κs. search needs) (λ c. found (c .before .spells7 .ensures) (c .if7 .taken) 5 names)
+    (λ c κs. search needs) (λ c. found (c .before .spells-long .ensures) (c .if8 .taken) 5 names)
+    (λ c κs. search needs) (λ c. found (c .before .spells8 .ensures) (c .if9 .taken) 5 names)
+    (λ c κs. search needs) (λ c. found (c .before .spells9 .ensures) (c .if10 .taken) 5 names)
+    (λ c.
+    let e9 = c .before .before in let e8 = e9 .before .before in let e7 = e8 .before .before in let e6 = e7 .before .before in
+    let e5 = e6 .before .before in let e4 = e5 .before .before in let e3 = e4 .before .before in let e2 = e3 .before .before in
+    let e1 = e2 .before .before in
+    by-rest 5 names []
+    (passed (e1 .before .spells .ensures) (e1 .if1 .left) (passed (e2 .before .spells2 .ensures) (e2 .if2 .left)
+    (passed (e3 .before .spells3 .ensures) (e3 .if3 .left) (passed (e4 .before .spells4 .ensures) (e4 .if4 .left)
+    (passed (e5 .before .spells5 .ensures) (e5 .if5 .left) (passed (e6 .before .spells6 .ensures) (e6 .if6 .left)
+    (passed (e7 .before .spells7 .ensures) (e7 .if7 .left) (passed (e8 .before .spells-long .ensures) (e8 .if8 .left)
+    (passed (e9 .before .spells8 .ensures) (e9 .if9 .left) (passed (c .before .spells9 .ensures) (c .if10 .left) all-left))))))))))))

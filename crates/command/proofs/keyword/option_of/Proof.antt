@@ -1,27 +1,37 @@
--- `keyword::option_of` meets its contract: a number of an arm is that of one word alone, and each word of the model's table has its arm.
+-- `keyword::option_of` meets its contract: its tests are the first rows of the model's table, in their order. At the place eI test I has failed;
+-- where all have, the rows of `plain_option` are left.
 use borrow.Author.Needs.{needs}
-use mathlib.Core.Path.{refl, sym, ap}
-use Rattle.model.specs.Bytes.{text, uppers}
-use Rattle.model.specs.Checked.{given}
+use mathlib.Core.Path.{_∙_}
+use lib.ListN.{drop}
+use Rattle.model.specs.Bytes.{littleEndian}
 use Rattle.model.specs.Command.{options}
-use Rattle.command.proofs.Codes.{FoundAs, found-as, not-found}
+use Rattle.command.proofs.Codes.{all-left, by-rest, found, passed}
 use Rattle.command.proofs.keyword.option_of.Statement.{statement}
 use Rattle.command.proofs.keyword.option_of.Tie as tie
 
-found : (c : tie.After-code-of) → FoundAs 8 options (uppers (c .before .before .args .w .now)) (c .code-of .result)
-found c = found-as 8 options (uppers (c .before .before .args .w .now)) (c .code-of .ensures)
-
 pub option-of-spec : {M : Type 1} → statement M
+unfolding littleEndian
 option-of-spec =
     tie.close
     (tie.spec
+    (λ c κs. search needs) (λ c. found (c .before .spells .ensures) (c .if1 .taken) 8 options)
+    (λ c κs. search needs) (λ c. found (c .before .spells2 .ensures) (c .if2 .taken) 8 options)
+    (λ c κs. search needs) (λ c. found (c .before .spells3 .ensures) (c .if3 .taken) 8 options)
+    (λ c κs. search needs) (λ c. found (c .before .spells4 .ensures) (c .if4 .taken) 8 options)
+    (λ c κs. search needs) (λ c. found (c .before .spells5 .ensures) (c .if5 .taken) 8 options)
+    (λ c κs. search needs) (λ c. found (c .before .spells6 .ensures) (c .if6 .taken) 8 options)
+    (λ c κs. search needs) (λ c. found (c .before .spells7 .ensures) (c .if7 .taken) 8 options)
+    (λ c κs. search needs) (λ c. found (c .before .spells8 .ensures) (c .if8 .taken) 8 options)
+    (λ c κs. search needs) (λ c. found (c .before .spells9 .ensures) (c .if9 .taken) 8 options)
     (λ c κs. search needs)
-    (λ c. found (c .before) (text "EX") refl (c .match .keys1)) (λ c. found (c .before) (text "PX") refl (c .match .keys2))
-    (λ c. found (c .before) (text "EXAT") refl (c .match .keys3)) (λ c. found (c .before) (text "PXAT") refl (c .match .keys4))
-    (λ c. found (c .before) (text "KEEPTTL") refl (c .match .keys5)) (λ c. found (c .before) (text "NX") refl (c .match .keys6))
-    (λ c. found (c .before) (text "XX") refl (c .match .keys7)) (λ c. found (c .before) (text "VER") refl (c .match .keys8))
-    (λ c. found (c .before) (text "ABS") refl (c .match .keys9)) (λ c. found (c .before) (text "FLAGS") refl (c .match .keys10))
-    (λ c. found (c .before) (text "MIN") refl (c .match .keys11)) (λ c. found (c .before) (text "MAX") refl (c .match .keys12))
-    (λ c. found (c .before) (text "NONEGATIVE") refl (c .match .keys13)) (λ c. found (c .before) (text "WITHVERSION") refl (c .match .keys14))
-    (λ c. found (c .before) (text "WITHFLAGS") refl (c .match .keys15))
-    (λ c. sym (ap (given 8) (not-found (uppers (c .before .before .before .args .w .now)) (c .before .code-of .ensures) options refl (c .match .rest)))))
+    (λ c.
+    let e9 = c .before in let e8 = e9 .before .before in let e7 = e8 .before .before in let e6 = e7 .before .before in
+    let e5 = e6 .before .before in let e4 = e5 .before .before in let e3 = e4 .before .before in let e2 = e3 .before .before in
+    let e1 = e2 .before .before in
+    c .plain-option .ensures
+    ∙ by-rest 8 options (drop 9 options)
+    (passed (e1 .before .spells .ensures) (e1 .if1 .left) (passed (e2 .before .spells2 .ensures) (e2 .if2 .left)
+    (passed (e3 .before .spells3 .ensures) (e3 .if3 .left) (passed (e4 .before .spells4 .ensures) (e4 .if4 .left)
+    (passed (e5 .before .spells5 .ensures) (e5 .if5 .left) (passed (e6 .before .spells6 .ensures) (e6 .if6 .left)
+    (passed (e7 .before .spells7 .ensures) (e7 .if7 .left) (passed (e8 .before .spells8 .ensures) (e8 .if8 .left)
+    (passed (e9 .before .spells9 .ensures) (e9 .if9 .left) all-left)))))))))))
