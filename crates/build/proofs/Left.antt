@@ -2,19 +2,19 @@
 use Prim.Native.Nat.{ℕ, zero, suc, _-_, _≤_, _<_}
 use native.Mathlib.Omega.{arith}
 use mathlib.Core.Path.{_≡_, refl, sym, ap, _∙_}
-use mathlib.Core.Bool.{Bool, true, false, cond, _&&_}
+use mathlib.Core.Bool.{true, cond, _&&_}
 use mathlib.Core.List.{List, [], _∷_}
 use mathlib.Core.Option.{Option, none, some, Option·getD}
 use lib.ListN.{length, drop, drop-of-length-le, length-drop}
 use lib.Dec.{leb}
 use borrow.Author.Tests.{le-leb, lt-leb}
 use Rattle.model.specs.Optional.{_>>=_}
-use Rattle.model.specs.Resp.{Taken, arrayMark, commandLimit, readLine, readBulk}
+use Rattle.model.specs.Resp.{Taken, arrayMark, readLine, readBulk}
 use Rattle.model.specs.Build.{bulksLeft, wordsLeft}
 use Rattle.model.proofs.Build.{bulksLeft-nil}
 use Rattle.resp.specs.Words.{lineFrom, wordFrom}
 use Rattle.resp.specs.declared.Line.the-variants.{Malformed as NoLine}
-use Rattle.resp.specs.declared.Word.the-variants.{At, Malformed}
+use Rattle.resp.specs.declared.Word.the-variants.{Malformed}
 use Rattle.resp.proofs.Lines.{LineAt, line-malformed}
 use Rattle.resp.proofs.Words.{WordAt, word-malformed}
 

@@ -4,7 +4,7 @@ use native.Mathlib.Omega.{arith}
 use native.Mathlib.Nat.{zero-add}
 use mathlib.Core.Path.{_≡_, refl, sym, ap, _∙_}
 use mathlib.Core.Bool.{Bool, true, false, cond, _&&_}
-use mathlib.Core.List.{List, [], _∷_, _++_, append-assoc}
+use mathlib.Core.List.{List, _++_, append-assoc}
 use mathlib.Core.Option.{Option, none, some}
 use lib.ListN.{length, take, drop, length-append}
 use lib.Seq.{length-take-le}
@@ -12,7 +12,7 @@ use lib.Dec.{leb}
 use borrow.Author.Tests.{le-leb, lt-leb, leb-true, leb-false}
 use Rattle.model.specs.Optional.{_>>=_}
 use Rattle.model.specs.Resp.{arrayMark, commandLimit, wordLimit, line, bulkBytes}
-use Rattle.model.specs.Build.{upTo, begin, wordsLeft, addWord, placed, front, beginIn, addWordIn}
+use Rattle.model.specs.Build.{upTo, begin, wordsLeft, addWord, placed, beginIn, addWordIn}
 use Rattle.model.proofs.Basics.{and-left, and-right}
 use Rattle.model.proofs.Build.{addWord-some, addWord-adds}
 use Rattle.slice.specs.Wrote.{Wrote}
@@ -49,7 +49,8 @@ module _ (b : List ℕ) (n : ℕ) where
       go true = placed-long b (line arrayMark n) h
       go false = refl
 
-  pub begin-wrote : {after : List ℕ} {r : ℕ} → 1 ≤ n → n ≤ 16 → length (line arrayMark n) ≤ length b → Wrote 0 (line arrayMark n) b after r → beginIn b n ≡ (after, r)
+  pub begin-wrote : {after : List ℕ} {r : ℕ} → 1 ≤ n → n ≤ 16 → length (line arrayMark n) ≤ length b
+      → Wrote 0 (line arrayMark n) b after r → beginIn b n ≡ (after, r)
   unfolding beginIn begin
   begin-wrote lo hi h p = rw (le-leb 1 n lo, le-leb n 16 hi) (placed-wrote b (line arrayMark n) h p)
 
@@ -126,8 +127,9 @@ module _ (b w : List ℕ) (len : ℕ) where
 
       pub add-wrote : {after : List ℕ} {r : ℕ} → fits b w len ≡ true → Wrote len (bulkBytes w) b after r → addWordIn b len w ≡ (after, r)
       add-wrote {after} {r} e p =
+          let here : len + length (bulkBytes w) ≡ 0 + length (take len b ++ bulkBytes w) = sym end ∙ sym (zero-add (length (take len b ++ bulkBytes w))) in
           let all : Wrote 0 (take len b ++ bulkBytes w) b after r = record {
-            place = p .place ∙ (sym end ∙ sym (zero-add (length (take len b ++ bulkBytes w))));
-            bytes = p .bytes ∙ (ap (λ (n : ℕ). take len b ++ (bulkBytes w ++ drop n b)) (sym end ∙ sym (zero-add (length (take len b ++ bulkBytes w)))) ∙ sym (append-assoc (take len b) (bulkBytes w) _));
+            place = p .place ∙ here;
+            bytes = p .bytes ∙ (ap (λ (n : ℕ). take len b ++ (bulkBytes w ++ drop n b)) here ∙ sym (append-assoc (take len b) (bulkBytes w) _));
           } in
           adds (fits-short e) ∙ placed-wrote b (take len b ++ bulkBytes w) (omega (arith, end, fits-room e)) all

@@ -1,5 +1,5 @@
--- Building a command: what is built is the encoding of the words given, so that it decodes to them; words that can be sent are built; and a
--- command that lacks a word decodes to none.
+-- Building a command: what is built is the encoding of the words given, so that it decodes to them; words that can be sent are built; a
+-- command that lacks a word decodes to none, and a refusal is final. Then the same of the calls that build it in a borrowed buffer.
 use mathlib.Core.Path.{_≡_, refl, sym, ap, _∙_, subst}
 use mathlib.Core.Bool.{Bool, true, false, cond, _&&_}
 use mathlib.Core.List.{List, [], _∷_, _++_, append-assoc, append-nil}
@@ -12,11 +12,11 @@ use lib.Dec.{leb}
 use borrow.Author.Tests.{leb-true, le-leb}
 use Rattle.model.specs.Bytes.{text}
 use Rattle.model.specs.Optional.{_>>=_, isSome}
-use Rattle.model.specs.Resp.{arrayMark, commandLimit, wordLimit, line, bulkBytes, bulksBytes, encode, Taken, took, readLine, readBulk, readBulks, readArray, decode}
-use Rattle.model.specs.Build.{upTo, begin, bulksLeft, wordsLeft, addWord, addWords, build, placed, front, beginIn, addWordIn, addWordsIn, buildIn}
+use Rattle.model.specs.Resp.{arrayMark, commandLimit, wordLimit, line, bulkBytes, bulksBytes, encode, readLine, readBulk, readBulks, readArray, decode}
+use Rattle.model.specs.Build.{upTo, begin, bulksLeft, wordsLeft, addWord, addWords, build, placed, beginIn, addWordIn, addWordsIn, buildIn}
 use Rattle.model.proofs.Basics.{and-left, and-right, some-eq, none-some, cond-some, came}
 use Rattle.model.proofs.Numbers.{length-natText}
-use Rattle.model.proofs.Words.{readLine-line, line-readLine, readLine-shorter, readBulk-bulkBytes, bulkBytes-readBulk, readBulk-shorter, Sendable, decode-encode, Decoded}
+use Rattle.model.proofs.Words.{readLine-line, line-readLine, readBulk-bulkBytes, bulkBytes-readBulk, readBulk-shorter, Sendable, decode-encode, Decoded}
 use Rattle.model.proofs.Compute.{computing}
 
 -- ---- rows
@@ -43,9 +43,13 @@ bytes-512 : (isSome (build (replicate 500 97 ∷ [])) ≡ true) × (build (repli
 unfolding computing begin wordsLeft addWord
 bytes-512 = (refl, refl)
 
-buffer-full : (buildIn (replicate 25 0) (text "EXGET" ∷ text "foo" ∷ []) ≡ (exget-foo ++ (0 ∷ []), 24)) × (buildIn (replicate 23 0) (text "EXGET" ∷ text "foo" ∷ []) .1 ≡ 0)
+room-left : buildIn (replicate 25 0) (text "EXGET" ∷ text "foo" ∷ []) ≡ (exget-foo ++ (0 ∷ []), 24)
 unfolding computing begin wordsLeft addWord beginIn addWordIn exget-foo
-buffer-full = (refl, refl)
+room-left = refl
+
+no-room : buildIn (replicate 23 0) (text "EXGET" ∷ text "foo" ∷ []) ≡ (text "*2\r\n$5\r\nEXGET\r\n" ++ replicate 8 0, 0)
+unfolding computing begin wordsLeft addWord beginIn addWordIn
+no-room = refl
 
 -- ---- what is built is the encoding of the words
 
@@ -71,7 +75,8 @@ addWord-some s w t e =
     came (wordsLeft s) (λ n. cond (leb 1 n) (upTo commandLimit (s ++ bulkBytes w)) none) e λ n p e.
     upTo-some commandLimit (s ++ bulkBytes w) t (cond-some (leb 1 n) (upTo commandLimit (s ++ bulkBytes w)) t e .1)
 
-addWords-some : (ws : List (List ℕ)) (s t : List ℕ) → length s ≤ commandLimit → addWords s ws ≡ some t → (s ++ bulksBytes ws ≡ t) × (length t ≤ commandLimit)
+addWords-some : (ws : List (List ℕ)) (s t : List ℕ) → length s ≤ commandLimit → addWords s ws ≡ some t
+    → (s ++ bulksBytes ws ≡ t) × (length t ≤ commandLimit)
 addWords-some [] s t h e = let same : s ≡ t = some-eq e in (append-nil s ∙ same, subst (λ (u : List ℕ). length u ≤ commandLimit) same h)
 addWords-some (w ∷ ws) s t h e =
     came (addWord s w) (λ u. addWords u ws) e λ u p e.
@@ -107,7 +112,8 @@ bulk-there n w s h = rw (readBulk-bulkBytes w s h)
 bulk-longer : (w : List ℕ) → length w ≤ length (bulkBytes w)
 bulk-longer w = simp length-append (omega arith)
 
-bulksLeft-add : (n m : ℕ) (s w : List ℕ) → bulksLeft n s ≡ some (suc m) → length s < 10 ^ 20 → length w < 10 ^ 20 → bulksLeft n (s ++ bulkBytes w) ≡ some m
+bulksLeft-add : (n m : ℕ) (s w : List ℕ) → bulksLeft n s ≡ some (suc m) → length s < 10 ^ 20 → length w < 10 ^ 20
+    → bulksLeft n (s ++ bulkBytes w) ≡ some m
 bulksLeft-add zero m [] w e h k = let z : zero ≡ suc m = some-eq e in absurd (omega arith)
 bulksLeft-add zero m (c ∷ s) w e h k = none-some (suc m) e
 bulksLeft-add (suc n) m [] w e h k =
@@ -161,7 +167,8 @@ pub addWord-adds : (s w : List ℕ) (m : ℕ) → wordsLeft s ≡ some (suc m) �
 unfolding addWord
 addWord-adds s w m e h = rw (e, le-leb 1 (suc m) (omega arith), le-leb (length (s ++ bulkBytes w)) commandLimit h)
 
-addWords-adds : (ws : List (List ℕ)) (s : List ℕ) → wordsLeft s ≡ some (length ws) → length (s ++ bulksBytes ws) ≤ commandLimit → addWords s ws ≡ some (s ++ bulksBytes ws)
+addWords-adds : (ws : List (List ℕ)) (s : List ℕ) → wordsLeft s ≡ some (length ws) → length (s ++ bulksBytes ws) ≤ commandLimit
+    → addWords s ws ≡ some (s ++ bulksBytes ws)
 addWords-adds [] s e h = ap {B = Option (List ℕ)} some (sym (append-nil s))
 addWords-adds (w ∷ ws) s e h =
     let whole = sym (append-assoc s (bulkBytes w) (bulksBytes ws)) in

@@ -5,7 +5,7 @@ use Prim.Native.Nat.{ℕ, _<_}
 use lib.ListN.{drop}
 use borrow.Author.Needs.{needs}
 use Rattle.model.specs.Build.{bulksLeft}
-use Rattle.resp.proofs.Words.{WordAt, word-at}
+use Rattle.resp.proofs.Words.{word-at}
 use Rattle.build.proofs.Left.{count, left-zero, left-end, left-malformed, left-next}
 use Rattle.build.proofs.bulks_left.Statement.{statement}
 use Rattle.build.proofs.bulks_left.Tie as tie
