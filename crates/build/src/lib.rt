@@ -82,7 +82,7 @@ pub fn begin_command(buffer: &mut [u8], words: usize) -> usize
     if buffer.len() < 3 + number::count_digits(words as u64) {
         return 0;
     }
-    reply::put_array(buffer, 0, words)
+    piece::put_array(buffer, 0, words)
 }
 
 // Adds a word to the command that the first `len` bytes of a buffer begin: its length then, and 0 where it is refused. They are refused where
@@ -100,7 +100,7 @@ pub fn add_word(buffer: &mut [u8], len: usize, word: &[u8]) -> usize
         return 0;
     }
     if word_fits(buffer.len(), len, word) {
-        return reply::put_bulk(buffer, len, word);
+        return piece::put_bulk(buffer, len, word);
     }
     0
 }

@@ -43,8 +43,8 @@ use Rattle.reply.specs.declared.Answer.{Answer}
 use Rattle.reply.specs.Replied.{Replied}
 use Rattle.execute.specs.Does.{Held, held, SomeRoom, Ready, actIn, Does}
 use Rattle.execute.specs.Finish.{StoredOk, Finishes}
-use Rattle.execute.proofs.Doing.{does-refuse, does-answer, does-store}
-use Rattle.execute.proofs.Acting.{excas-live}
+use Rattle.access.proofs.Doing.{does-refuse, does-answer, does-store}
+use Rattle.access.proofs.Acting.{excas-live}
 
 -- ---- what was stored
 

@@ -1,5 +1,4 @@
 // What each command does to the table, once its key is looked up, and what it answers.
-mod access;
 mod write;
 
 use command::Action;

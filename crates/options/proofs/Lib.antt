@@ -1,5 +1,3 @@
--- Laws of the groups of options, of their reading word by word, and of what they say.
+-- Laws of the groups of options and of their reading word by word.
 pub mod Groups
 pub mod Taking
-pub mod Answers
-pub mod Times

@@ -9,6 +9,7 @@ use mathlib.Core.Option.{Option, none, some}
 use lib.ListN.{length, drop, set, drop-of-length-le, List·getD-eq-default}
 use lib.Seq.{drop-cons}
 use Rattle.model.specs.Bytes.{uppers}
+use Rattle.model.specs.Checked.{refuse, ok, given}
 use Rattle.model.specs.Optional.{_>>=_, only}
 use Rattle.model.specs.Command as model
 use Rattle.model.specs.Command.{Rule, kindNo, optRuleOf, look, options}
@@ -21,6 +22,17 @@ use Rattle.options.specs.declared.Given.{Given}
 use Rattle.options.specs.declared.Options.{Options}
 use Rattle.options.specs.declared.Taken.the-variants as Taken
 use Rattle.options.proofs.Groups.{has-group, tied-put}
+
+-- ---- a step that may refuse
+
+module _ {A : Type 0} (n : ℕ) where
+  pub given-none : (o : Option A) → refuse n ≡ given n o → o ≡ none
+  given-none none e = refl
+  given-none (some a) e = let z : _≡_ {A = ℕ} 0 1 = cc in absurd (omega arith)
+
+  pub given-some : (o : Option A) {a : A} → ok a ≡ given n o → o ≡ some a
+  given-some none e = let z : _≡_ {A = ℕ} 0 1 = cc in absurd (omega arith)
+  given-some (some b) e = cc
 
 -- ---- one option
 

@@ -1,14 +1,8 @@
-// The options of a command: which are given, at most one of each group, and what they say. Kinds and groups go by the model's numbers.
-mod values;
-
+// The options of a command: which are given, at most one of each group. Kinds and groups go by the model's numbers.
 use command::Opt;
 use command::Plain;
 use command::Rule;
 use command::Spelled;
-pub use values::ReadSaid;
-pub use values::Said;
-pub use values::said_in;
-pub use values::unsaid;
 ghost use mathlib.Core.Path.{_≡_};
 ghost use mathlib.Core.List.{List, []};
 ghost use Prim.Native.Nat.{ℕ, _<_};

@@ -18,9 +18,9 @@ use Rattle.command.specs.Rules.{modelRule, modelNumber}
 use Rattle.command.specs.declared.Rule.{Rule}
 use Rattle.options.specs.Options.{Collects, Tied}
 use Rattle.options.specs.declared.Collected.{Collected}
-use Rattle.parse.specs.Fixed.{checkedFixed}
+use Rattle.arguments.specs.Fixed.{checkedFixed}
 use Rattle.parse.specs.Reading.{FixedIs}
-use Rattle.parse.specs.declared.arguments.ReadFixed.{ReadFixed}
+use Rattle.arguments.specs.declared.ReadFixed.{ReadFixed}
 
 -- the name counts as a fixed word
 pub least-fixed : (n : Name) → 1 ≤ ruleOf n .fixed

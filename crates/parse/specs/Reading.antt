@@ -11,10 +11,10 @@ use Rattle.model.specs.Parse.{wordAt, readFixed}
 use Rattle.resp.specs.Spans.{wordsOf, Splits}
 use Rattle.command.specs.Rules.{modelRule}
 use Rattle.command.specs.declared.Rule.{Rule}
-use Rattle.options.specs.Values.{checkedBy, checkedSaid}
-use Rattle.options.specs.declared.values.ReadSaid.{ReadSaid}
-use Rattle.parse.specs.Fixed.{modelFixed}
-use Rattle.parse.specs.declared.arguments.Fixed.{Fixed}
+use Rattle.values.specs.Values.{checkedBy, checkedSaid}
+use Rattle.values.specs.declared.ReadSaid.{ReadSaid}
+use Rattle.arguments.specs.Fixed.{modelFixed}
+use Rattle.arguments.specs.declared.Fixed.{Fixed}
 
 -- s is a command of `count` words, the array says where they stand, and r is the rule of its name
 pub record Reading (s places : List ℕ) (count time : ℕ) (n : Name) (r : Rule) : Type 0 where

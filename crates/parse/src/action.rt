@@ -6,7 +6,7 @@ use command::Join;
 use command::Name;
 use command::Set;
 use command::Swap;
-use options::Said;
+use values::Said;
 ghost use mathlib.Core.Path.{_≡_};
 ghost use mathlib.Core.List.{List};
 ghost use Prim.Native.Nat.{ℕ};
@@ -14,8 +14,8 @@ ghost use Rattle.model.specs.Command.{EXINCRBY, ruleOf};
 ghost use Rattle.model.specs.Parse.{actionOf};
 ghost use Rattle.command.specs.Command.{modelAction};
 ghost use Rattle.command.specs.Words.{modelName};
-ghost use Rattle.options.specs.Values.{modelSaid};
-ghost use Rattle.parse.specs.Fixed.{modelFixed};
+ghost use Rattle.values.specs.Values.{modelSaid};
+ghost use Rattle.arguments.specs.Fixed.{modelFixed};
 
 // The action of EXINCRBY.
 fn increment(by: i64, said: Said) -> Action

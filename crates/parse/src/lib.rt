@@ -1,14 +1,13 @@
 // The words of a command as a command by value, or the number of the first test that refuses it, 5 to 11.
 mod action;
-mod arguments;
 
 use arguments::Fixed;
 use command::Name;
 use command::Named;
 use command::Parsed;
 use command::Rule;
-use options::ReadSaid;
 use record::Form;
+use values::ReadSaid;
 ghost use mathlib.Core.Path.{_≡_};
 ghost use mathlib.Core.List.{List};
 ghost use Prim.Native.Nat.{ℕ, _≤_};
@@ -47,7 +46,7 @@ fn parse_plain(name: Name, rule: Rule, nine: u32, fixed: Fixed) -> Parsed
     }
     let said = ReadSaid {
         number: 0,
-        said: options::unsaid(rule.keeps),
+        said: values::unsaid(rule.keeps),
     };
     parse_numbers(name, nine, fixed, said)
 }
@@ -77,7 +76,7 @@ fn parse_options(
         return Parsed::Refused(c.number);
     }
     let o = c.options;
-    let said = options::said_in(s, places, count, time, rule.keeps, o);
+    let said = values::said_in(s, places, count, time, rule.keeps, o);
     parse_numbers(name, nine, fixed, said)
 }
 

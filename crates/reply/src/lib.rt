@@ -1,5 +1,4 @@
-// Replies in RESP2: the pieces of a reply, whole replies, and the answer to a call.
-mod piece;
+// Replies in RESP2: whole replies, and the answer to a call.
 mod refusal;
 mod whole;
 

@@ -1,6 +1,6 @@
 // The error replies of the refusals by 5 to 17.
 use crate::Answer;
-use crate::piece::put_error;
+use piece::put_error;
 ghost use Prim.Native.Nat.{_-_, _≤_};
 ghost use lib.ListN.{length, take, drop};
 ghost use Rattle.model.specs.Resp.{scalarBytes, error};

@@ -1,10 +1,10 @@
 // Whole replies. Each is written from the start of a borrowed buffer, which keeps its bytes behind the reply, and the answer is given back.
 use crate::Answer;
-use crate::piece::put_array;
-use crate::piece::put_bulk;
-use crate::piece::put_integer;
-use crate::piece::put_nil;
-use crate::piece::put_simple;
+use piece::put_array;
+use piece::put_bulk;
+use piece::put_integer;
+use piece::put_nil;
+use piece::put_simple;
 ghost use mathlib.Core.List.{_++_};
 ghost use Prim.Native.Nat.{_+_, _≤_, _<_};
 ghost use lib.ListN.{length};

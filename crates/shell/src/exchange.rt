@@ -22,12 +22,6 @@ pub fn carry_out(
     ensures { λ r. ⌜ Exchanged (call form128 (now (table .entry)) time (now (command .entry)) (now (reply .entry))) (now (old .entry)) r (now (table .exit)) (now (reply .exit)) ⌝ }
 {
     let answer = store::call(table, time, command, reply);
-    if answer.number != 0 {
-        return Exchange {
-            answer,
-            write: false,
-        };
-    }
-    let write = !slice::same(old, table);
+    let write = status::is_to_write(answer.number, old, table);
     Exchange { answer, write }
 }

@@ -2,7 +2,6 @@
 use crate::creation::init;
 use crate::listing::list;
 use crate::notice::Clock;
-use crate::notice::REFUSED;
 use crate::notice::refuse;
 use crate::notice::refuse_call;
 use crate::notice::refuse_word;
@@ -15,6 +14,7 @@ use commandline::path_at;
 use commandline::records_at;
 use libc::STDIN_FILENO;
 use number::Natural;
+use status::REFUSED;
 use tablefile::Loaded;
 use tablefile::read_whole;
 

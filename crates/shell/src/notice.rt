@@ -1,46 +1,6 @@
-// What is told: one line for each refusal. The exit statuses, and the time of a call.
+// What is told: one line for each refusal. The time of a call.
+use status::REFUSED;
 use terminal::complain;
-ghost use mathlib.Core.Path.{_≡_};
-ghost use Rattle.shell.specs.Status.{statusOf, toldStatus};
-
-// Answered.
-pub const DONE: u64 = 0;
-
-// Answered by an error.
-pub const ERROR: u64 = 1;
-
-// Refused, with a line on standard error.
-pub const REFUSED: u64 = 2;
-
-// The table did change, and the reply could not be written.
-pub const UNTOLD: u64 = 3;
-
-// The exit status of an answer by its number.
-pub fn status_of(number: u32) -> u64
-    ensures { λ r. ⌜ r ≡ statusOf number ⌝ }
-{
-    if number == 0 {
-        return DONE;
-    }
-    let has_reply = (5 <= number) & (number <= 17);
-    if has_reply {
-        return ERROR;
-    }
-    REFUSED
-}
-
-// The exit status of an answer whose reply was written or not, after a command that changed the table or not.
-pub fn status_told(written: bool, changed: bool, number: u32) -> u64
-    ensures { λ r. ⌜ r ≡ toldStatus written changed number ⌝ }
-{
-    if written {
-        return status_of(number);
-    }
-    if changed {
-        return UNTOLD;
-    }
-    REFUSED
-}
 
 // The time of a call: one that is set, or that of the lock's grant.
 pub enum Clock {

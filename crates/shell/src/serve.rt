@@ -6,13 +6,13 @@ use crate::keeper::Grant;
 use crate::keeper::ask;
 use crate::keeper::let_go;
 use crate::notice::Clock;
-use crate::notice::REFUSED;
 use crate::notice::refuse_call;
-use crate::notice::status_of;
-use crate::notice::status_told;
 use crate::notice::tell_unwritten;
 use crate::notice::time_by;
 use reply::Answer;
+use status::REFUSED;
+use status::status_of;
+use status::status_told;
 use tablefile::Loaded;
 use tablefile::Rights;
 use tablefile::SPACE;
@@ -20,7 +20,7 @@ use tablefile::load;
 use tablefile::replace;
 use terminal::print;
 use terminal::print_reply;
-ghost use Rattle.shell.specs.Status.{Told};
+ghost use Rattle.status.specs.Status.{Told};
 
 // The bytes of a new table's 16 empty records.
 const NEW_SIZE: usize = 2048;

@@ -20,8 +20,7 @@ use Rattle.command.specs.Rules.{modelRule}
 use Rattle.command.specs.Words.{modelOpt, checkedSpelled}
 use Rattle.command.specs.declared.Opt.{Opt}
 use Rattle.command.specs.declared.Spelled.{Spelled}
-use Rattle.options.proofs.Answers.{given-none, given-some}
-use Rattle.options.proofs.Taking.{taken-unknown, taken-kind, taken-plain, taken-short, taken-numbered}
+use Rattle.options.proofs.Taking.{given-none, given-some, taken-unknown, taken-kind, taken-plain, taken-short, taken-numbered}
 use Rattle.options.proofs.take_option.Statement.{statement}
 use Rattle.options.proofs.take_option.Tie as tie
 

@@ -11,9 +11,9 @@ use Rattle.model.specs.Command.{under, ruleOf}
 use Rattle.model.specs.Parse.{wordAt, actionOf}
 use Rattle.number.proofs.Integers.{back-is}
 use Rattle.command.specs.Words.{modelName}
-use Rattle.options.specs.Values.{modelSaid}
-use Rattle.options.proofs.Answers.{passed-is, refused-is}
-use Rattle.parse.specs.Fixed.{modelFixed}
+use Rattle.values.specs.Values.{modelSaid}
+use Rattle.values.proofs.Answers.{passed-is, refused-is}
+use Rattle.arguments.specs.Fixed.{modelFixed}
 use Rattle.parse.proofs.Order.{numbers-in-turn}
 use Rattle.parse.proofs.parse_numbers.Statement.{statement}
 use Rattle.parse.proofs.parse_numbers.Tie as tie

@@ -8,8 +8,8 @@ use Rattle.command.specs.Command.{modelExpire}
 use Rattle.table.specs.Slots.{recordIn}
 use Rattle.live.specs.Under.{shapeOf}
 use Rattle.live.proofs.Cases.{live-here, in-use-here}
-use Rattle.execute.proofs.Doing.{minusOne-in, stale-in, replied-stale, does-answer}
-use Rattle.execute.proofs.Acting.{liveHere, excas-absent, excas-live}
+use Rattle.access.proofs.Doing.{minusOne-in, stale-in, replied-stale, does-answer}
+use Rattle.access.proofs.Acting.{liveHere, excas-absent, excas-live}
 use Rattle.execute.proofs.Writing.{finish-in, does-as, write-new, excas-own}
 use Rattle.execute.proofs.write.excas.Statement.{statement}
 use Rattle.execute.proofs.write.excas.Tie as tie

@@ -19,7 +19,7 @@ use Rattle.live.specs.Under.{shapeOf}
 use Rattle.put.specs.Put.{putIn, valueIn, Puts}
 use Rattle.execute.specs.Does.{actIn}
 use Rattle.execute.specs.Finish.{Finishes}
-use Rattle.execute.proofs.Doing.{nil-in, error-in, does-refuse}
+use Rattle.access.proofs.Doing.{nil-in, error-in, does-refuse}
 use Rattle.execute.proofs.Writing.{finish-in, does-as, write-new, write-none, countIn, LetBy, exincrby-by, turned-nil, turned-stale, newOf, counted-refused, counted-is}
 use Rattle.execute.proofs.write.exincrby.Statement.{statement}
 use Rattle.execute.proofs.write.exincrby.Tie as tie

@@ -5,7 +5,7 @@ use mathlib.Core.Path.{refl}
 use Rattle.command.specs.Command.{modelTerms}
 use Rattle.command.specs.declared.Action.the-variants.{Exjoin}
 use Rattle.execute.specs.Does.{actIn}
-use Rattle.execute.proofs.Doing.{nil-in, error-in}
+use Rattle.access.proofs.Doing.{nil-in, error-in}
 use Rattle.execute.proofs.Writing.{finish-in, write-new, joinIn, LetBy, exjoin-by, turned-nil, turned-stale, granted}
 use Rattle.execute.proofs.write.exjoin.Statement.{statement}
 use Rattle.execute.proofs.write.exjoin.Tie as tie

@@ -5,7 +5,7 @@ use mathlib.Core.Path.{refl}
 use Rattle.command.specs.Command.{modelTerms}
 use Rattle.command.specs.declared.Action.the-variants.{Exset}
 use Rattle.execute.specs.Does.{actIn}
-use Rattle.execute.proofs.Doing.{nil-in, error-in}
+use Rattle.access.proofs.Doing.{nil-in, error-in}
 use Rattle.execute.proofs.Writing.{finish-in, write-new, setIn, LetBy, exset-by, turned-nil, turned-stale, granted}
 use Rattle.execute.proofs.write.exset.Statement.{statement}
 use Rattle.execute.proofs.write.exset.Tie as tie

@@ -3,7 +3,7 @@ use borrow.Author.Needs.{needs}
 use mathlib.Core.Path.{sym, subst}
 use Rattle.put.specs.declared.Stored.{Stored}
 use Rattle.execute.specs.Finish.{replyOf, StoredOk, Finishes}
-use Rattle.execute.proofs.Doing.{error-in}
+use Rattle.access.proofs.Doing.{error-in}
 use Rattle.execute.proofs.Writing.{finishes-refused, finishes-stored}
 use Rattle.execute.proofs.write.finish.Statement.{statement}
 use Rattle.execute.proofs.write.finish.Tie as tie

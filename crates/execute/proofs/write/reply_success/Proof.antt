@@ -8,7 +8,7 @@ use Rattle.model.specs.Number.{isSigned}
 use Rattle.model.specs.Execute.{countReply}
 use Rattle.number.proofs.Integers.{back-is}
 use Rattle.reply.specs.Replied.{Replied}
-use Rattle.execute.proofs.Doing.{number-in, set-in, count-in, swap-in}
+use Rattle.access.proofs.Doing.{number-in, set-in, count-in, swap-in}
 use Rattle.execute.proofs.Writing.{signed-fits}
 use Rattle.execute.proofs.write.reply_success.Statement.{statement}
 use Rattle.execute.proofs.write.reply_success.Tie as tie

@@ -11,8 +11,8 @@ use Rattle.number.proofs.Integers.{back-is}
 use Rattle.command.specs.Command.{modelAction}
 use Rattle.command.specs.Words.{modelName}
 use Rattle.command.specs.declared.Name.{Name}
-use Rattle.options.specs.Values.{modelSaid}
-use Rattle.parse.specs.Fixed.{modelFixed}
+use Rattle.values.specs.Values.{modelSaid}
+use Rattle.arguments.specs.Fixed.{modelFixed}
 use Rattle.parse.proofs.action.action_of.Statement.{statement}
 use Rattle.parse.proofs.action.action_of.Tie as tie
 

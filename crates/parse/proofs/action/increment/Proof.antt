@@ -5,7 +5,7 @@ use Rattle.model.specs.Command.{EXINCRBY}
 use Rattle.model.specs.Parse.{actionOf}
 use Rattle.number.proofs.Integers.{back-is}
 use Rattle.command.specs.Command.{modelAction}
-use Rattle.options.specs.Values.{modelSaid}
+use Rattle.values.specs.Values.{modelSaid}
 use Rattle.parse.proofs.action.increment.Statement.{statement}
 use Rattle.parse.proofs.action.increment.Tie as tie
 

@@ -1,0 +1,2 @@
+-- Laws of expiries in range.
+pub mod Times

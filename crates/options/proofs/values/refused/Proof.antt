@@ -1,7 +1,0 @@
--- `values::refused` meets its contract: it has the number.
-use borrow.Author.Needs.{needs}
-use Rattle.options.proofs.values.refused.Statement.{statement}
-use Rattle.options.proofs.values.refused.Tie as tie
-
-pub refused-spec : {M : Type 1} → statement M
-refused-spec = tie.close (tie.spec (λ c κs. search needs) (λ c. search needs))

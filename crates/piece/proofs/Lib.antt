@@ -1,0 +1,2 @@
+-- Laws of pieces written side by side.
+pub mod Pieces

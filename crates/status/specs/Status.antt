@@ -1,0 +1,24 @@
+-- What an answer comes to at the command line, by its number.
+use Prim.Native.Nat.{ℕ}
+use mathlib.Core.Path.{_≡_}
+use mathlib.Core.Bool.{Bool, cond, _&&_, not}
+use mathlib.Core.List.{List}
+use lib.Dec.{leb, eqb}
+use Rattle.model.specs.Bytes.{same}
+
+-- whether a file with the bytes `old` is to be written: the call was answered, and the file lacks what the table holds
+abbrev pub toWrite : ℕ → (old table : List ℕ) → Bool
+toWrite n old t = eqb n 0 && not (same old t)
+
+-- 0 where the command was answered, 1 where it was answered by an error reply, 2 where there is no reply
+abbrev pub statusOf : ℕ → ℕ
+statusOf n = cond (eqb n 0) 0 (cond (leb 5 n && leb n 17) 1 2)
+
+-- the same where the reply was written; where it was not, 3 if the table changed and 2 if it did not
+abbrev pub toldStatus : (written changed : Bool) → ℕ → ℕ
+toldStatus written changed n = cond written (statusOf n) (cond changed 3 2)
+
+-- r is the exit status of an answer with the number n, whether its reply was written or not
+pub record Told (changed : Bool) (n r : ℕ) : Type 0 where
+  pub written : Bool
+  pub status : r ≡ toldStatus written changed n

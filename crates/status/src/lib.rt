@@ -1,0 +1,49 @@
+// What an answer comes to at the command line: whether the table's file is written, and the exit status.
+ghost use mathlib.Core.Path.{_≡_};
+ghost use Rattle.status.specs.Status.{toWrite, statusOf, toldStatus};
+
+// Answered.
+pub const DONE: u64 = 0;
+
+// Answered by an error.
+pub const ERROR: u64 = 1;
+
+// Refused, with a line on standard error.
+pub const REFUSED: u64 = 2;
+
+// The table did change, and the reply could not be written.
+pub const UNTOLD: u64 = 3;
+
+// The exit status of an answer by its number.
+pub fn status_of(number: u32) -> u64
+    ensures { λ r. ⌜ r ≡ statusOf number ⌝ }
+{
+    if number == 0 {
+        return DONE;
+    }
+    let has_reply = (5 <= number) & (number <= 17);
+    if has_reply {
+        return ERROR;
+    }
+    REFUSED
+}
+
+// The exit status of an answer whose reply was written or not, after a command that changed the table or not.
+pub fn status_told(written: bool, changed: bool, number: u32) -> u64
+    ensures { λ r. ⌜ r ≡ toldStatus written changed number ⌝ }
+{
+    if written {
+        return status_of(number);
+    }
+    if changed {
+        return UNTOLD;
+    }
+    REFUSED
+}
+
+// Whether a table is to be written over its file, which has the bytes `old`, after an answer with a number.
+pub fn is_to_write(number: u32, old: &[u8], table: &[u8]) -> bool
+    ensures { λ r. ⌜ r ≡ toWrite number (now (old .entry)) (now (table .entry)) ⌝ }
+{
+    (number == 0) & !slice::same(old, table)
+}
