@@ -9,7 +9,7 @@ use Rattle.model.specs.Optional.{only}
 use Rattle.model.specs.Number.{readVersion}
 use Rattle.model.specs.Command.{look}
 use Rattle.commandline.specs.declared.switch.Switch.{Switch}
-use Rattle.commandline.specs.declared.switch.Switch.the-variants.{Table, Time, Init, List as Listing, Check, Keeper, End, Unknown, Word}
+use Rattle.commandline.specs.declared.switch.Switch.the-variants.{Table, Time, Init, List as Listing, Check, Diff, Keeper, End, Unknown, Word}
 
 -- a word that begins with a minus is an option
 abbrev pub dashed : List ℕ → Bool
@@ -24,6 +24,7 @@ switches =
     ∷ (text "--init", Init)
     ∷ (text "--list", Listing)
     ∷ (text "--check", Check)
+    ∷ (text "--diff", Diff)
     ∷ (text "--keeper", Keeper)
     ∷ (text "--", End)
     ∷ []
@@ -43,6 +44,7 @@ takesValue Time = true
 takesValue Init = true
 takesValue Listing = false
 takesValue Check = false
+takesValue Diff = false
 takesValue Keeper = false
 takesValue End = false
 takesValue Unknown = false

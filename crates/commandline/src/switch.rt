@@ -10,6 +10,7 @@ pub enum Switch {
     Init,
     List,
     Check,
+    Diff,
     Keeper,
     End,
     Unknown,
@@ -45,6 +46,9 @@ fn spelled(w: &[u8]) -> Switch
     if slice::same(w, b"--check") {
         return Switch::Check;
     }
+    if slice::same(w, b"--diff") {
+        return Switch::Diff;
+    }
     if slice::same(w, b"--keeper") {
         return Switch::Keeper;
     }
@@ -75,6 +79,7 @@ pub fn takes_value(s: Switch) -> bool
         Switch::Init => true,
         Switch::List => false,
         Switch::Check => false,
+        Switch::Diff => false,
         Switch::Keeper => false,
         Switch::End => false,
         Switch::Unknown => false,

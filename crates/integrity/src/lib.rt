@@ -7,7 +7,7 @@ ghost use Prim.Native.Nat.{_≤_, _<_};
 ghost use lib.ListN.{length, getD};
 ghost use Rattle.model.specs.Table.{recordSize};
 ghost use Rattle.record.specs.Forms.{formOf};
-ghost use Rattle.integrity.specs.Check.{Fresh, Checks, Tests};
+ghost use Rattle.integrity.specs.Check.{faultless, Fresh, Checks, Tests};
 
 // The most records of a table.
 const TABLE_LIMIT: usize = 256;
@@ -53,6 +53,15 @@ pub fn check(table: &[u8], form: Form, heads: &mut [u8], next: &mut [u8]) -> boo
         above = i;
     }
     true
+}
+
+// Whether the table keeps all rules, for a caller that needs no index.
+pub fn is_good(table: &[u8], form: Form) -> bool
+    ensures { λ ok. ⌜ ok ≡ faultless (formOf form) (now (table .entry)) ⌝ }
+{
+    let mut heads = [0; 2048];
+    let mut next = [0; 256];
+    check(table, form, &mut heads, &mut next)
 }
 
 // Tests the bytes of a slot, and enters it if they are a record in use.

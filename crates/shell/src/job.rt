@@ -1,4 +1,5 @@
 // The jobs of the command line.
+use crate::comparison::compare_at;
 use crate::creation::init;
 use crate::listing::list;
 use crate::notice::Clock;
@@ -99,13 +100,23 @@ fn run_first(line: Line, count: usize, buffer: &[u8; 4096], n: usize) -> u64 {
     run_at(line, count, &path[0..n])
 }
 
-// Whether two jobs are asked for: of --init, --list, --check and a command.
+// Whether two jobs are asked for: of --init, --list, --check, --diff and a command.
 fn is_mixed(line: Line, count: usize) -> bool {
     let init = line.init != 0;
     let list = line.list != 0;
     let check = line.check != 0;
-    let words = line.words < count;
-    (init & (list | check)) | ((list & check) | ((init | (list | check)) & words))
+    let other = (line.diff != 0) | (line.words < count);
+    (init & (list | check)) | ((list & check) | ((init | (list | check)) & other))
+}
+
+// Compares the tables of the two files that the words name.
+fn run_diff(words: usize, count: usize) -> u64 {
+    if words < count {
+        if count - words == 2 {
+            return compare_at(words, words + 1);
+        }
+    }
+    refuse(b"--diff needs the names of two files")
 }
 
 // Says that no path can be had, and why.
@@ -122,7 +133,10 @@ pub fn run(line: Line, count: usize) -> u64 {
         return refuse_word(line.unknown, b"is no option; see --help");
     }
     if is_mixed(line, count) {
-        return refuse(b"--init, --list and --check stand alone, without a command");
+        return refuse(b"--init, --list, --check and --diff stand alone, without a command");
+    }
+    if line.diff != 0 {
+        return run_diff(line.words, count);
     }
     let mut path = io::buffer();
     let n = path_at(line.table, &mut path);

@@ -7,9 +7,9 @@ use crate::notice::refuse_call;
 use crate::notice::refuse_file;
 use crate::notice::refuse_output;
 use crate::notice::time_by;
-use inspection::is_sound;
 use inspection::list_records;
 use inspection::tell_faults;
+use record::Form;
 use record::TIME_LIMIT;
 use status::DONE;
 use status::REFUSED;
@@ -22,7 +22,7 @@ fn list_table(table: &[u8], path: &[u8], time: u64, shown: bool) -> u64 {
     if TIME_LIMIT < time {
         return refuse_call(2, path);
     }
-    let sound = is_sound(table);
+    let sound = integrity::is_good(table, Form::Of128);
     if !sound {
         tell_faults(table, path);
     }

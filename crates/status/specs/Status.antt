@@ -18,6 +18,15 @@ statusOf n = cond (eqb n 0) 0 (cond (leb 5 n && leb n 17) 1 2)
 abbrev pub toldStatus : (written changed : Bool) → ℕ → ℕ
 toldStatus written changed n = cond written (statusOf n) (cond changed 3 2)
 
+-- of two tables, told in `len` bytes: 0 where they hold the same, 1 where they differ, 2 where one is no good table
+abbrev pub statusBetween : (good : Bool) (len : ℕ) → ℕ
+statusBetween good len = cond good (cond (eqb len 0) 0 1) 2
+
+-- r is the exit status of a comparison that was told in `len` bytes, whether they were written or not
+pub record Compared (good : Bool) (len r : ℕ) : Type 0 where
+  pub written : Bool
+  pub status : r ≡ cond written (statusBetween good len) 2
+
 -- r is the exit status of an answer with the number n, whether its reply was written or not
 pub record Told (changed : Bool) (n r : ℕ) : Type 0 where
   pub written : Bool

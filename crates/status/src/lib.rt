@@ -1,12 +1,15 @@
 // What an answer comes to at the command line: whether the table's file is written, and the exit status.
 ghost use mathlib.Core.Path.{_≡_};
-ghost use Rattle.status.specs.Status.{toWrite, statusOf, toldStatus};
+ghost use Rattle.status.specs.Status.{toWrite, statusOf, toldStatus, statusBetween};
 
 // Answered.
 pub const DONE: u64 = 0;
 
 // Answered by an error.
 pub const ERROR: u64 = 1;
+
+// Two tables were compared, and they differ.
+pub const DIFFERENT: u64 = 1;
 
 // Refused, with a line on standard error.
 pub const REFUSED: u64 = 2;
@@ -39,6 +42,19 @@ pub fn status_told(written: bool, changed: bool, number: u32) -> u64
         return UNTOLD;
     }
     REFUSED
+}
+
+// The exit status of a comparison of two tables, told in `len` bytes: 0 where they hold the same, 1 where they differ, 2 where one is no good table.
+pub fn status_between(good: bool, len: usize) -> u64
+    ensures { λ r. ⌜ r ≡ statusBetween good len ⌝ }
+{
+    if !good {
+        return REFUSED;
+    }
+    if len == 0 {
+        return DONE;
+    }
+    DIFFERENT
 }
 
 // Whether a table is to be written over its file, which has the bytes `old`, after an answer with a number.

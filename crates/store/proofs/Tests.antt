@@ -14,12 +14,12 @@ use Rattle.model.specs.Resp.{decode}
 use Rattle.model.specs.Gate.{Inputs, gate}
 use Rattle.model.specs.Call.{Outcome, call}
 use Rattle.model.specs.CurrentValue.{Shown, nothing, orNothing, showsIn, currentValue}
-use Rattle.model.proofs.Basics.{and-left, and-right}
 use Rattle.model.proofs.Calls.{through-gate}
-use Rattle.table.specs.Slots.{Reads, slotsOf}
+use Rattle.table.specs.Slots.{slotsOf}
 use Rattle.table.specs.Index.{Indexed}
 use Rattle.table.proofs.Records.{slots-of}
 use Rattle.integrity.specs.Check.{faultless}
+use Rattle.integrity.proofs.Verdict.{good-reads, good-keys}
 use Rattle.resp.specs.Spans.{wordsOf, checkedCount, Split}
 use Rattle.resp.specs.declared.Count.{Count}
 use Rattle.resp.specs.declared.Count.the-variants.{Words, Malformed}
@@ -41,14 +41,6 @@ refuses (ok a) g e = let z : _≡_ {A = ℕ} 0 1 = cc in absurd (omega arith)
 not-passed : {X : Type 0} {m n : ℕ} → Refused n ≡ Passed m → X
 not-passed z = let z : _≡_ {A = ℕ} 0 1 = cc in absurd (omega arith)
 
--- what a table that keeps every rule has
-module _ (t : List ℕ) (good : faultless form128 t ≡ true) where
-  reads : Reads form128 t
-  reads = and-left (isSome (readTable form128 t)) _ good
-
-  keys : distinct (slotsOf form128 t) ≡ true
-  keys = and-right (isSome (readTable form128 t)) _ good
-
 module _ {q : Query} {t c places heads next : List ℕ} where
   refused : {n : ℕ} → gateIn q t c ≡ refuse n → Gates q t c places heads next (Refused n)
   refused e = record { answer = rw e; passed = λ m z. not-passed z; index = λ m z. not-passed z }
@@ -65,25 +57,25 @@ module _ {q : Query} {t c places heads next : List ℕ} where
   module _ (good : faultless form128 t ≡ true) where
     pub late : timeLimit < q .time → Gates q t c places heads next (Refused 2)
     unfolding gate
-    late h = refused (rw (slots-of form128 t (reads t good), keys t good, lt-leb (q .time) timeLimit h))
+    late h = refused (rw (slots-of form128 t (good-reads form128 t good), good-keys form128 t good, lt-leb (q .time) timeLimit h))
 
     module _ (early : q .time ≤ timeLimit) where
       pub short : q .room < form128 .replyRoom → Gates q t c places heads next (Refused 3)
       unfolding gate
-      short h = refused (rw (slots-of form128 t (reads t good), keys t good, le-leb (q .time) timeLimit early, lt-leb (form128 .replyRoom) (q .room) h))
+      short h = refused (rw (slots-of form128 t (good-reads form128 t good), good-keys form128 t good, le-leb (q .time) timeLimit early, lt-leb (form128 .replyRoom) (q .room) h))
 
       module _ (room : form128 .replyRoom ≤ q .room) {r : Count} (split : Split c places r) where
         pub malformed : r ≡ Malformed → Gates q t c places heads next (Refused 4)
         unfolding gate
         malformed e =
             let words = refuses (given 4 (decode c)) length (ap checkedCount (sym e) ∙ split .count) in
-            refused (rw (slots-of form128 t (reads t good), keys t good, le-leb (q .time) timeLimit early, le-leb (form128 .replyRoom) (q .room) room, words))
+            refused (rw (slots-of form128 t (good-reads form128 t good), good-keys form128 t good, le-leb (q .time) timeLimit early, le-leb (form128 .replyRoom) (q .room) room, words))
 
         pub passed : {n : ℕ} → r ≡ Words n → Indexed form128 t 0 heads next → Gates q t c places heads next (Passed n)
         passed {n} e x =
             let splits = split .splits e in
             let is = through-gate form128 t (q .time) (q .room) c (record { slots = slotsOf form128 t; words = wordsOf c }) (record {
-              table = record { read = slots-of form128 t (reads t good); keys = keys t good };
+              table = record { read = slots-of form128 t (good-reads form128 t good); keys = good-keys form128 t good };
               time = early;
               buffer = room;
               command = splits .decoded;
@@ -92,7 +84,7 @@ module _ {q : Query} {t c places heads next : List ℕ} where
               answer = rw is (ap {B = Checked ℕ} ok (split-count split e));
               passed = λ m z. record {
                 is = is;
-                reads = reads t good;
+                reads = good-reads form128 t good;
                 time = early;
                 room = room;
                 splits = splits;

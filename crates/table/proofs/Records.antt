@@ -11,10 +11,10 @@ use lib.ListN.{length, drop, getD, getElem?}
 use lib.Seq.{drop-drop}
 use Rattle.model.specs.Bytes.{all}
 use Rattle.model.specs.Optional.{_>>=_}
-use Rattle.model.specs.Table.{Form, Slot, empty, recordSize, slotBytes, recordAt, readSlot, readSlots, sizeRules, readTable}
+use Rattle.model.specs.Table.{Form, Slot, empty, recordSize, slotBytes, recordAt, readSlot, readSlots, tableLimit, sizeRules, readTable}
 use Rattle.model.specs.Optional.{isSome}
 use borrow.Author.Tests.{leb-true}
-use Rattle.model.proofs.Basics.{never, and-left, every, at-within}
+use Rattle.model.proofs.Basics.{never, and-left, Every, every, at-within}
 use Rattle.model.proofs.Records.{Kept, readSlot-slotBytes}
 use Rattle.model.proofs.Tables.{WasTable, tableBytes-readTable, length-tableBytes, recordAt-tableBytes, all-at}
 use Rattle.table.specs.Slots.{Reads, Inside, slotsOf}
@@ -93,8 +93,14 @@ read-table f t = by (all (sizeRules f t))
     by true = refl
     by false = refl
 
--- a table has a slot
-pub some-slot : (f : Form) (t : List ℕ) → Reads f t → 0 < length (slotsOf f t)
-some-slot f t ok =
-    let sizes = every (sizeRules f t) (and-left (all (sizeRules f t)) _ (sym (read-table f t) ∙ ok)) in
-    omega (arith, leb-true 1 (length t / recordSize f) (sizes .1 .0), count-is f t ok)
+module _ (f : Form) (t : List ℕ) (ok : Reads f t) where
+  sizes : Every (sizeRules f t)
+  sizes = every (sizeRules f t) (and-left (all (sizeRules f t)) _ (sym (read-table f t) ∙ ok))
+
+  -- a table has a slot
+  pub some-slot : 0 < length (slotsOf f t)
+  some-slot = omega (arith, leb-true 1 (length t / recordSize f) (sizes .1 .0), count-is f t ok)
+
+  -- and no more than 256
+  pub slots-limit : length (slotsOf f t) ≤ 256
+  slots-limit = omega (arith, leb-true (length t / recordSize f) tableLimit (sizes .1 .1 .0), count-is f t ok)

@@ -5,7 +5,7 @@ use mathlib.Core.Bool.{Bool, true}
 use mathlib.Core.List.{List, []}
 use mathlib.Core.Option.{Option, none, some, Option·getD, Option·map}
 use lib.ListN.{length, getD, getElem?, drop, set}
-use Rattle.model.specs.Table.{Form, Slot, Record, empty, used, fields, recordSize, recordAt, tableBytes, readTable}
+use Rattle.model.specs.Table.{Form, Slot, Record, empty, used, fields, recordSize, recordAt, tableBytes, readTable, distinct}
 use Rattle.model.specs.Search.{Placed, findKey, lowest}
 use Rattle.model.specs.Optional.{isSome}
 use Rattle.record.specs.Record.{InUse}
@@ -19,6 +19,11 @@ Reads f t = isSome (readTable f t) ≡ true
 -- the slots of a table, none where it does not read
 unfoldable pub slotsOf : Form → List ℕ → List Slot
 slotsOf f t = Option·getD (readTable f t) []
+
+-- a table that keeps every rule
+pub record Good (f : Form) (t : List ℕ) : Type 0 where
+  pub reads : Reads f t
+  pub keys : distinct (slotsOf f t) ≡ true
 
 -- record i lies within the table
 abbrev pub Inside : Form → List ℕ → ℕ → Type 0

@@ -6,6 +6,7 @@ mod replacing;
 
 pub use name::folder;
 pub use name::put_new_name;
+pub use reading::fetch;
 pub use reading::load;
 pub use reading::read_whole;
 pub use reading::tell;
@@ -14,7 +15,7 @@ pub use replacing::replace;
 // The room for a table: one record more than it can have, so that a longer file is seen to be one.
 pub const SPACE: usize = 32896;
 
-// What became of reading a file into a buffer: how many bytes came, that there is no such file, or that it failed, which was told already.
+// What became of reading a file into a buffer: how many bytes came, that there is no such file, or that it failed. Where a name is at hand, a failure was told already.
 pub enum Loaded {
     Bytes(usize),
     Missing,

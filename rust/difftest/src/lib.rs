@@ -3,7 +3,8 @@
 //!
 //! `case` makes one call's table, time, command and reply buffer. `compare`
 //! runs it on two stores. `history` makes whole lists of calls on one record
-//! and checks their answers against a serial execution.
+//! and checks their answers against a serial execution. `pairs` makes the files
+//! of two tables.
 
 #![forbid(unsafe_code)]
 
@@ -18,6 +19,7 @@ pub mod expect;
 pub mod hex;
 pub mod history;
 pub mod layout;
+pub mod pairs;
 pub mod printed;
 pub mod resp;
 pub mod rng;

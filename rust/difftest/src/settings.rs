@@ -2,6 +2,7 @@
 
 use std::env;
 use std::io::Write;
+use std::path::{Path, PathBuf};
 
 /// Tells what a test runs, past the harness, which keeps back what a test that passes prints.
 pub fn announce(text: &str) {
@@ -21,6 +22,19 @@ pub fn calls() -> u64 {
 /// How many random histories are checked: PIETRUNEL_HISTORIES for a longer run.
 pub fn histories() -> u64 {
     number("PIETRUNEL_HISTORIES", 20_000)
+}
+
+/// How many random pairs of files are compared: PIETRUNEL_PAIRS for a longer run.
+pub fn pairs() -> u64 {
+    number("PIETRUNEL_PAIRS", 2_000)
+}
+
+/// The program diff: PIETRUNEL_DIFF, or that of the repository.
+pub fn diff_program() -> PathBuf {
+    match env::var_os("PIETRUNEL_DIFF") {
+        Some(path) => path.into(),
+        None => Path::new(env!("CARGO_MANIFEST_DIR")).join("../../target/bin/diff"),
+    }
 }
 
 fn number(name: &str, default: u64) -> u64 {

@@ -53,7 +53,7 @@ fn new_key(rng: &mut Rng, keys: &BTreeSet<Vec<u8>>) -> Vec<u8> {
 }
 
 /// A record in use, live or expired at this time, if there can be such.
-fn fields(rng: &mut Rng, key: Vec<u8>, now: u64, live: bool) -> Fields {
+pub fn fields(rng: &mut Rng, key: Vec<u8>, now: u64, live: bool) -> Fields {
     Fields {
         key,
         value: words::value(rng),

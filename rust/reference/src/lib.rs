@@ -11,6 +11,7 @@
 mod checked;
 mod command;
 mod current_value;
+mod difference;
 mod execute;
 mod gate;
 mod number;
@@ -21,6 +22,7 @@ mod search;
 mod table;
 
 pub use current_value::{current_value, Shown};
+pub use difference::difference;
 
 use execute::{execute, Effect};
 use gate::gate;

@@ -1,88 +1,46 @@
--- `switch::spelled` meets its contract: its tests are those of the list of options, in their order.
-use mathlib.Core.Path.{sym, _∙_}
+-- `switch::spelled` meets its contract: its tests are those of the list of options, in their order. A test that failed leaves the rest of the list.
+use mathlib.Core.Path.{_≡_, sym, ap, _∙_}
+use lib.ListN.{drop}
 use borrow.Author.Needs.{needs}
+use Rattle.model.specs.Command.{look}
+use Rattle.commandline.specs.Switches.{switches, switchFrom}
 use Rattle.commandline.proofs.switch.spelled.Statement.{statement}
 use Rattle.commandline.proofs.switch.spelled.Tie as tie
 
-returns-2 : tie.Need-returns-2
-returns-2 c =
-    let e1 = c .before .before .before in
-    rw (sym (e1 .before .same .ensures) ∙ e1 .if1 .left, sym (c .before .same2 .ensures) ∙ c .if2 .taken)
+left-1 : (c : tie.Else1) → let w = c .before .before .before .before .args .w .now in look w switches ≡ look w (drop 1 switches)
+left-1 c = rw (sym (c .before .same .ensures) ∙ c .if1 .left)
 
-returns-3 : tie.Need-returns-3
-returns-3 c =
-    let e2 = c .before .before .before in
-    let e1 = e2 .before .before .before in
-    rw (sym (e1 .before .same .ensures) ∙ e1 .if1 .left, sym (e2 .before .same2 .ensures) ∙ e2 .if2 .left, sym (c .before .same3 .ensures) ∙ c .if3 .taken)
+left-2 : (c : tie.Else2) → let w = c .before .before .before .before .before .before .before .args .w .now in look w switches ≡ look w (drop 2 switches)
+left-2 c = left-1 (c .before .before .before) ∙ rw (sym (c .before .same2 .ensures) ∙ c .if2 .left)
 
-returns-4 : tie.Need-returns-4
-returns-4 c =
-    let e3 = c .before .before .before in
-    let e2 = e3 .before .before .before in
-    let e1 = e2 .before .before .before in
-    rw (sym (e1 .before .same .ensures) ∙ e1 .if1 .left, sym (e2 .before .same2 .ensures) ∙ e2 .if2 .left, sym (e3 .before .same3 .ensures) ∙ e3 .if3 .left, sym (c .before .same4 .ensures) ∙ c .if4 .taken)
+left-3 : (c : tie.Else3) → let w = c .before .before .before .before .before .before .before .before .before .before .args .w .now in look w switches ≡ look w (drop 3 switches)
+left-3 c = left-2 (c .before .before .before) ∙ rw (sym (c .before .same3 .ensures) ∙ c .if3 .left)
 
-returns-5 : tie.Need-returns-5
-returns-5 c =
-    let e4 = c .before .before .before in
-    let e3 = e4 .before .before .before in
-    let e2 = e3 .before .before .before in
-    let e1 = e2 .before .before .before in
-    rw (sym (e1 .before .same .ensures) ∙ e1 .if1 .left, sym (e2 .before .same2 .ensures) ∙ e2 .if2 .left, sym (e3 .before .same3 .ensures) ∙ e3 .if3 .left, sym (e4 .before .same4 .ensures) ∙ e4 .if4 .left, sym (c .before .same5 .ensures) ∙ c .if5 .taken)
+left-4 : (c : tie.Else4) → let w = c .before .before .before .before .before .before .before .before .before .before .before .before .before .args .w .now in look w switches ≡ look w (drop 4 switches)
+left-4 c = left-3 (c .before .before .before) ∙ rw (sym (c .before .same4 .ensures) ∙ c .if4 .left)
 
-returns-6 : tie.Need-returns-6
-returns-6 c =
-    let e5 = c .before .before .before in
-    let e4 = e5 .before .before .before in
-    let e3 = e4 .before .before .before in
-    let e2 = e3 .before .before .before in
-    let e1 = e2 .before .before .before in
-    rw (sym (e1 .before .same .ensures) ∙ e1 .if1 .left, sym (e2 .before .same2 .ensures) ∙ e2 .if2 .left, sym (e3 .before .same3 .ensures) ∙ e3 .if3 .left, sym (e4 .before .same4 .ensures) ∙ e4 .if4 .left, sym (e5 .before .same5 .ensures) ∙ e5 .if5 .left, sym (c .before .same6 .ensures) ∙ c .if6 .taken)
+left-5 : (c : tie.Else5) → let w = c .before .before .before .before .before .before .before .before .before .before .before .before .before .before .before .before .args .w .now in look w switches ≡ look w (drop 5 switches)
+left-5 c = left-4 (c .before .before .before) ∙ rw (sym (c .before .same5 .ensures) ∙ c .if5 .left)
 
-returns-7 : tie.Need-returns-7
-returns-7 c =
-    let e6 = c .before .before .before in
-    let e5 = e6 .before .before .before in
-    let e4 = e5 .before .before .before in
-    let e3 = e4 .before .before .before in
-    let e2 = e3 .before .before .before in
-    let e1 = e2 .before .before .before in
-    rw (sym (e1 .before .same .ensures) ∙ e1 .if1 .left, sym (e2 .before .same2 .ensures) ∙ e2 .if2 .left, sym (e3 .before .same3 .ensures) ∙ e3 .if3 .left, sym (e4 .before .same4 .ensures) ∙ e4 .if4 .left, sym (e5 .before .same5 .ensures) ∙ e5 .if5 .left, sym (e6 .before .same6 .ensures) ∙ e6 .if6 .left, sym (c .before .same7 .ensures) ∙ c .if7 .taken)
+left-6 : (c : tie.Else6) → let w = c .before .before .before .before .before .before .before .before .before .before .before .before .before .before .before .before .before .before .before .args .w .now in look w switches ≡ look w (drop 6 switches)
+left-6 c = left-5 (c .before .before .before) ∙ rw (sym (c .before .same6 .ensures) ∙ c .if6 .left)
 
-returns-8 : tie.Need-returns-8
-returns-8 c =
-    let e7 = c in
-    let e6 = e7 .before .before .before in
-    let e5 = e6 .before .before .before in
-    let e4 = e5 .before .before .before in
-    let e3 = e4 .before .before .before in
-    let e2 = e3 .before .before .before in
-    let e1 = e2 .before .before .before in
-    rw (sym (e1 .before .same .ensures) ∙ e1 .if1 .left, sym (e2 .before .same2 .ensures) ∙ e2 .if2 .left, sym (e3 .before .same3 .ensures) ∙ e3 .if3 .left, sym (e4 .before .same4 .ensures) ∙ e4 .if4 .left, sym (e5 .before .same5 .ensures) ∙ e5 .if5 .left, sym (e6 .before .same6 .ensures) ∙ e6 .if6 .left, sym (e7 .before .same7 .ensures) ∙ e7 .if7 .left)
+left-7 : (c : tie.Else7) → let w = c .before .before .before .before .before .before .before .before .before .before .before .before .before .before .before .before .before .before .before .before .before .before .args .w .now in look w switches ≡ look w (drop 7 switches)
+left-7 c = left-6 (c .before .before .before) ∙ rw (sym (c .before .same7 .ensures) ∙ c .if7 .left)
+
+left-8 : (c : tie.Else8) → let w = c .before .before .before .before .before .before .before .before .before .before .before .before .before .before .before .before .before .before .before .before .before .before .before .before .before .args .w .now in look w switches ≡ look w (drop 8 switches)
+left-8 c = left-7 (c .before .before .before) ∙ rw (sym (c .before .same8 .ensures) ∙ c .if8 .left)
 
 pub spelled-spec : {M : Type 1} → statement M
 spelled-spec =
     tie.close
     (tie.spec
-    (λ c. search needs)
-    (λ c κs. search needs)
-    (λ c. rw (sym (c .before .same .ensures) ∙ c .if1 .taken))
-    (λ c. search needs)
-    (λ c κs. search needs)
-    returns-2
-    (λ c. search needs)
-    (λ c κs. search needs)
-    returns-3
-    (λ c. search needs)
-    (λ c κs. search needs)
-    returns-4
-    (λ c. search needs)
-    (λ c κs. search needs)
-    returns-5
-    (λ c. search needs)
-    (λ c κs. search needs)
-    returns-6
-    (λ c. search needs)
-    (λ c κs. search needs)
-    returns-7
-    returns-8)
+    (λ c. search needs) (λ c κs. search needs) (λ c. rw (sym (c .before .same .ensures) ∙ c .if1 .taken))
+    (λ c. search needs) (λ c κs. search needs) (λ c. sym (ap switchFrom (left-1 (c .before .before .before)) ∙ rw (sym (c .before .same2 .ensures) ∙ c .if2 .taken)))
+    (λ c. search needs) (λ c κs. search needs) (λ c. sym (ap switchFrom (left-2 (c .before .before .before)) ∙ rw (sym (c .before .same3 .ensures) ∙ c .if3 .taken)))
+    (λ c. search needs) (λ c κs. search needs) (λ c. sym (ap switchFrom (left-3 (c .before .before .before)) ∙ rw (sym (c .before .same4 .ensures) ∙ c .if4 .taken)))
+    (λ c. search needs) (λ c κs. search needs) (λ c. sym (ap switchFrom (left-4 (c .before .before .before)) ∙ rw (sym (c .before .same5 .ensures) ∙ c .if5 .taken)))
+    (λ c. search needs) (λ c κs. search needs) (λ c. sym (ap switchFrom (left-5 (c .before .before .before)) ∙ rw (sym (c .before .same6 .ensures) ∙ c .if6 .taken)))
+    (λ c. search needs) (λ c κs. search needs) (λ c. sym (ap switchFrom (left-6 (c .before .before .before)) ∙ rw (sym (c .before .same7 .ensures) ∙ c .if7 .taken)))
+    (λ c. search needs) (λ c κs. search needs) (λ c. sym (ap switchFrom (left-7 (c .before .before .before)) ∙ rw (sym (c .before .same8 .ensures) ∙ c .if8 .taken)))
+    (λ c. sym (ap switchFrom (left-8 c))))

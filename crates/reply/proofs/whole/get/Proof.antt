@@ -5,7 +5,7 @@ use Prim.Native.Nat.{_<_}
 use Rattle.model.specs.Number.{flagsLimit}
 use Rattle.model.specs.Execute.{getReply}
 use Rattle.reply.specs.Replied.{shown}
-use Rattle.reply.proofs.Writing.{Begun, begin, merge, room, next, replied}
+use Rattle.reply.proofs.Writing.{Begun, begin, as-one, room, next, replied}
 use native.Mathlib.Omega.{arith}
 use borrow.Author.Needs.{needs}
 use Rattle.reply.proofs.whole.get.Statement.{statement}
@@ -23,7 +23,7 @@ put-value-requires c κs =
     let a = c .before .before .before in
     let t = a .before .before in
     let s = t .before .before .before in
-    (room (merge (next (start s (t .if1 .taken)) (a .put-array .ensures))), s .pre .1)
+    (room (as-one (next (start s (t .if1 .taken)) (a .put-array .ensures))), s .pre .1)
 
 put-number-requires : tie.Need-put-number-requires
 put-number-requires c κs =
@@ -31,7 +31,7 @@ put-number-requires c κs =
     let a = v .before .before .before .before in
     let t = a .before .before in
     let s = t .before .before .before in
-    (room (next (merge (next (start s (t .if1 .taken)) (a .put-array .ensures))) (v .put-value .ensures)), omega (arith, small s))
+    (room (next (as-one (next (start s (t .if1 .taken)) (a .put-array .ensures))) (v .put-value .ensures)), omega (arith, small s))
 
 returns : tie.Need-returns
 returns c =
@@ -40,21 +40,21 @@ returns c =
     let a = v .before .before .before .before in
     let t = a .before .before in
     rw (t .if1 .taken)
-    (replied (next (next (merge (next (start (t .before .before .before) (t .if1 .taken)) (a .put-array .ensures))) (v .put-value .ensures)) (n .put-number .ensures)))
+    (replied (next (next (as-one (next (start (t .before .before .before) (t .if1 .taken)) (a .put-array .ensures))) (v .put-value .ensures)) (n .put-number .ensures)))
 
 put-value-requires-2 : tie.Need-put-value-requires-2
 put-value-requires-2 c κs =
     let a = c .before .before .before in
     let t = a .before .before in
     let s = t .before .before .before in
-    (room (merge (next (start s (t .if1 .left)) (a .put-array2 .ensures))), s .pre .1)
+    (room (as-one (next (start s (t .if1 .left)) (a .put-array2 .ensures))), s .pre .1)
 
 returns-2 : tie.Need-returns-2
 returns-2 c =
     let v = c .before .before in
     let a = v .before .before .before .before in
     let t = a .before .before in
-    rw (t .if1 .left) (replied (next (merge (next (start (t .before .before .before) (t .if1 .left)) (a .put-array2 .ensures))) (v .put-value2 .ensures)))
+    rw (t .if1 .left) (replied (next (as-one (next (start (t .before .before .before) (t .if1 .left)) (a .put-array2 .ensures))) (v .put-value2 .ensures)))
 
 pub get-spec : {M : Type 1} → statement M
 get-spec =

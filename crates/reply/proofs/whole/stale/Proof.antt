@@ -1,7 +1,7 @@
 -- `reply::stale` meets its contract: the array's line, the text, and value and version are the reply's pieces.
 use Rattle.model.specs.Execute.{staleReply}
 use Rattle.reply.specs.Replied.{shown}
-use Rattle.reply.proofs.Writing.{Begun, begin, merge, room, next, replied}
+use Rattle.reply.proofs.Writing.{Begun, begin, as-one, room, next, replied}
 use borrow.Author.Needs.{needs}
 use Rattle.reply.proofs.whole.stale.Statement.{statement}
 use Rattle.reply.proofs.whole.stale.Tie as tie
@@ -19,7 +19,7 @@ put-value-requires c κs =
     let t = c .before .before .before in
     let a = t .before .before .before .before in
     let s = a .before .before .before .before in
-    (room (merge (next (next (start s) (a .put-array .ensures)) (t .put-stale .ensures))), s .pre .1)
+    (room (as-one (next (next (start s) (a .put-array .ensures)) (t .put-stale .ensures))), s .pre .1)
 
 returns : tie.Need-returns
 returns c =
@@ -27,7 +27,7 @@ returns c =
     let t = v .before .before .before .before in
     let a = t .before .before .before .before in
     let s = a .before .before .before .before in
-    replied (next (merge (next (next (start s) (a .put-array .ensures)) (t .put-stale .ensures))) (v .put-value .ensures))
+    replied (next (as-one (next (next (start s) (a .put-array .ensures)) (t .put-stale .ensures))) (v .put-value .ensures))
 
 pub stale-spec : {M : Type 1} → statement M
 stale-spec = tie.close (tie.spec (λ c κs. room (start (c .before .before .before))) put-stale-requires put-value-requires (λ c. search needs) returns)
