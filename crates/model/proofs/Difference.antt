@@ -105,7 +105,7 @@ rising-insertKey k (x ∷ ks) r = go (rising-insertKey k ks (r .1)) (before k x)
     go ih false true p q = r
     go ih false false p q = (λ g i. behind (not-before k x q p) g (in-insertKey k ks g i), ih)
 
-pub keysOf-rising : (ss : List Slot) → Rising itself (keysOf ss)
+keysOf-rising : (ss : List Slot) → Rising itself (keysOf ss)
 unfolding keysOf
 keysOf-rising [] = tt
 keysOf-rising (empty ∷ ss) = keysOf-rising ss
@@ -147,7 +147,7 @@ recordFor-at k ss i r d e h = ap (Option·map (λ o. o .rec)) (find-at k ss i r 
 
 -- ---- the line of a key
 
-pub lineOf-key : (k : List ℕ) (x y : Option Record) (l : Line) → lineOf k x y ≡ some l → lineKey l ≡ k
+lineOf-key : (k : List ℕ) (x y : Option Record) (l : Line) → lineOf k x y ≡ some l → lineKey l ≡ k
 lineOf-key k none none l e = none-some l e
 lineOf-key k (some r) none l e = ap lineKey (sym (some-eq e))
 lineOf-key k none (some q) l e = ap lineKey (sym (some-eq e))
@@ -339,7 +339,7 @@ module _ (a b : List Slot) where
       (λ l i. difference-exact l .1 (h l .0 i)) (λ l i. h l .1 (difference-exact l .0 i))
 
 -- tables that hold the same records, in any slots, have no lines
-pub difference-none : (a b : List Slot) → ((k : List ℕ) → Agree (recordFor k a) (recordFor k b)) → difference a b ≡ []
+difference-none : (a b : List Slot) → ((k : List ℕ) → Agree (recordFor k a) (recordFor k b)) → difference a b ≡ []
 difference-none a b h =
     sym (difference-unique a b [] tt (λ l. (λ i. absurd i, λ e. none-some l (sym (no-line (lineKey l) (recordFor (lineKey l) a) (recordFor (lineKey l) b) .1 (h (lineKey l))) ∙ e))))
 

@@ -13,6 +13,7 @@ use Rattle.model.specs.Order.{before}
 
 -- ---- lines
 
+-- what a line may name, in its order
 pub data Field : Type 0 where
   value version flags expiry : Field
 
@@ -42,6 +43,7 @@ fieldsApart r q =
     ++ (when (not (eqb (r .flags) (q .flags))) flags
     ++ when (not (eqb (r .expiry) (q .expiry))) expiry))
 
+-- no line where no field differs
 abbrev pub changedLine : List ℕ → List Field → Option Line
 changedLine k [] = none
 changedLine k (f ∷ fs) = some (changed k (f ∷ fs))
@@ -70,10 +72,12 @@ keysOf (used r ∷ ss) = insertKey (r .key) (keysOf ss)
 abbrev pub recordFor : List ℕ → List Slot → Option Record
 recordFor k ss = Option·map (λ (p : Placed). p .rec) (findKey k ss)
 
+-- a line before others, if there is one
 abbrev pub addLine : Option Line → List Line → List Line
 addLine none ls = ls
 addLine (some l) ls = l ∷ ls
 
+-- the lines of these keys
 abbrev pub linesFor : (old new : List Slot) → (keys : List (List ℕ)) → List Line
 linesFor a b [] = []
 linesFor a b (k ∷ ks) = addLine (lineOf k (recordFor k a) (recordFor k b)) (linesFor a b ks)
@@ -88,10 +92,12 @@ difference a b = linesFor a b (keysOf (a ++ b))
 abbrev pub hexDigit : ℕ → ℕ
 hexDigit d = cond (ltb d 10) (48 + d) (87 + d)
 
+-- two digits a byte, the high one first
 abbrev pub hex : List ℕ → List ℕ
 hex [] = []
 hex (c ∷ s) = hexDigit (c / 16) ∷ hexDigit (c % 16) ∷ hex s
 
+-- a blank stands before each name
 abbrev pub fieldText : Field → List ℕ
 fieldText value = text " value"
 fieldText version = text " version"
@@ -102,6 +108,7 @@ abbrev pub fieldsText : List Field → List ℕ
 fieldsText [] = []
 fieldsText (f ∷ fs) = fieldText f ++ fieldsText fs
 
+-- a line before its line feed
 abbrev pub lineText : Line → List ℕ
 lineText (removed k) = text "- " ++ hex k
 lineText (added k) = text "+ " ++ hex k
@@ -114,6 +121,7 @@ linesBytes (l ∷ ls) = lineText l ++ (10 ∷ linesBytes ls)
 
 -- ---- from two files
 
+-- the first is tested first
 abbrev pub reportOf : (old new : Checked (List Slot)) → List ℕ
 reportOf (refuse n) b = text "bad 1\n"
 reportOf (ok a) (refuse n) = text "bad 2\n"

@@ -21,6 +21,7 @@ fn enter(table: &[u8], form: Form, slot: usize, list: &mut [u8], n: usize) -> us
         return n;
     }
     match find_place(table, form, list, n, record::key(r)) {
+        // keys are distinct, so that none of those after it has this one
         Place::At(_) => n,
         Place::Gap(place) => {
             put_in(list, n, place, slot as u8);

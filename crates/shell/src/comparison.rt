@@ -11,7 +11,6 @@ use status::status_between;
 use tablefile::Loaded;
 use tablefile::SPACE;
 use tablefile::load;
-ghost use mathlib.Core.Bool.{_&&_};
 ghost use lib.ListN.{length};
 ghost use Rattle.model.specs.Table.{form128};
 ghost use Rattle.model.specs.Difference.{report};
@@ -70,13 +69,13 @@ fn read_at(place: usize, table: &mut [u8; SPACE]) -> usize {
 
 // Prints what differs between two tables, and gives back the exit status.
 fn compare(before: &[u8], after: &[u8]) -> u64
-    ensures { λ r. ⌜ Compared (faultless form128 (now (before .entry)) && faultless form128 (now (after .entry))) (length (report (now (before .entry)) (now (after .entry)))) r ⌝ }
+    ensures { λ r. ⌜ Compared (faultless form128 (now (before .entry))) (faultless form128 (now (after .entry))) (length (report (now (before .entry)) (now (after .entry)))) r ⌝ }
 {
     let first = integrity::is_good(before, Form::Of128);
     let second = integrity::is_good(after, Form::Of128);
     let printed = print_difference(before, after);
     if printed.written {
-        return status_between(first & second, printed.len);
+        return status_between(first, second, printed.len);
     }
     refuse_output();
     REFUSED

@@ -1,4 +1,4 @@
--- What an answer comes to at the command line, by its number.
+-- What an answer comes to at the command line, by its number, and what a comparison of two tables does.
 use Prim.Native.Nat.{ℕ}
 use mathlib.Core.Path.{_≡_}
 use mathlib.Core.Bool.{Bool, cond, _&&_, not}
@@ -18,14 +18,14 @@ statusOf n = cond (eqb n 0) 0 (cond (leb 5 n && leb n 17) 1 2)
 abbrev pub toldStatus : (written changed : Bool) → ℕ → ℕ
 toldStatus written changed n = cond written (statusOf n) (cond changed 3 2)
 
--- of two tables, told in `len` bytes: 0 where they hold the same, 1 where they differ, 2 where one is no good table
-abbrev pub statusBetween : (good : Bool) (len : ℕ) → ℕ
-statusBetween good len = cond good (cond (eqb len 0) 0 1) 2
+-- of two tables, each good or not, told in `len` bytes: 0 where they hold the same, 1 where they differ, 2 where one is no good table
+abbrev pub statusBetween : (first second : Bool) (len : ℕ) → ℕ
+statusBetween first second len = cond (first && second) (cond (eqb len 0) 0 1) 2
 
 -- r is the exit status of a comparison that was told in `len` bytes, whether they were written or not
-pub record Compared (good : Bool) (len r : ℕ) : Type 0 where
+pub record Compared (first second : Bool) (len r : ℕ) : Type 0 where
   pub written : Bool
-  pub status : r ≡ cond written (statusBetween good len) 2
+  pub status : r ≡ cond written (statusBetween first second len) 2
 
 -- r is the exit status of an answer with the number n, whether its reply was written or not
 pub record Told (changed : Bool) (n r : ℕ) : Type 0 where

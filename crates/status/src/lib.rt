@@ -1,4 +1,4 @@
-// What an answer comes to at the command line: whether the table's file is written, and the exit status.
+// What an answer, or a comparison of two tables, comes to at the command line: whether the table's file is written, and the exit status.
 ghost use mathlib.Core.Path.{_≡_};
 ghost use Rattle.status.specs.Status.{toWrite, statusOf, toldStatus, statusBetween};
 
@@ -44,10 +44,12 @@ pub fn status_told(written: bool, changed: bool, number: u32) -> u64
     REFUSED
 }
 
-// The exit status of a comparison of two tables, told in `len` bytes: 0 where they hold the same, 1 where they differ, 2 where one is no good table.
-pub fn status_between(good: bool, len: usize) -> u64
-    ensures { λ r. ⌜ r ≡ statusBetween good len ⌝ }
+// The exit status of a comparison of two tables, each good or not, told in `len` bytes: 0 where they hold the same, 1 where they differ, 2 where
+// one is no good table.
+pub fn status_between(first: bool, second: bool, len: usize) -> u64
+    ensures { λ r. ⌜ r ≡ statusBetween first second len ⌝ }
 {
+    let good = first & second;
     if !good {
         return REFUSED;
     }

@@ -1,4 +1,5 @@
 -- `status::status_between` meets its contract: its tests are the definition's.
+use mathlib.Core.Bool.{_&&_}
 use borrow.Author.Tests.{eq-eqb, ne-eqb, not-true, not-false}
 use Rattle.status.proofs.status_between.Statement.{statement}
 use Rattle.status.proofs.status_between.Tie as tie
@@ -7,6 +8,6 @@ pub status-between-spec : {M : Type 1} → statement M
 status-between-spec =
     tie.close
     (tie.spec
-    (λ c. rw (not-true (c .before .args .good) (c .if1 .taken)))
-    (λ c. rw (not-false (c .before .before .args .good) (c .before .if1 .left), eq-eqb (c .before .before .args .len) 0 (c .if2 .taken)))
-    (λ c. rw (not-false (c .before .before .args .good) (c .before .if1 .left), ne-eqb (c .before .before .args .len) 0 (c .if2 .left))))
+    (λ c. let a = c .before .args in rw (not-true (a .first && a .second) (c .if1 .taken)))
+    (λ c. let a = c .before .before .args in rw (not-false (a .first && a .second) (c .before .if1 .left), eq-eqb (a .len) 0 (c .if2 .taken)))
+    (λ c. let a = c .before .before .args in rw (not-false (a .first && a .second) (c .before .if1 .left), ne-eqb (a .len) 0 (c .if2 .left))))
