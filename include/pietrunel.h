@@ -6,6 +6,8 @@
  * allocates nothing and calls nothing but memcpy, memmove, memset and memcmp.
  *
  * Commands: EXSET, EXGET, EXSETVER, EXINCRBY, EXCAS, EXCAD, EXAPPEND, EXPREPEND, EXGAE and DEL.
+ * EXINCRBY with NONEGATIVE makes 0 of a sum below 0, however far below; after that it tests the sum
+ * against 64 signed bits, MIN and MAX.
  *
  * Threads: calls on different tables may run at the same time. Calls on one table must be ordered
  * by the caller, for example by a lock; pietrunel_current_value only reads, so calls of it on one
@@ -98,7 +100,7 @@ extern "C" {
 #define PIETRUNEL_MIN_ABOVE_MAX 11
 #define PIETRUNEL_STALE_VERSION 12       /* VER differs from the live record's version */
 #define PIETRUNEL_STORED_NOT_A_NUMBER 13 /* EXINCRBY on a value that is no number */
-#define PIETRUNEL_SUM_OUT_OF_RANGE 14    /* outside 64 signed bits, or MIN and MAX */
+#define PIETRUNEL_SUM_OUT_OF_RANGE 14    /* outside 64 signed bits, MIN or MAX, after NONEGATIVE */
 #define PIETRUNEL_VERSION_AT_TOP 15      /* it would rise above 2^63 - 1 */
 #define PIETRUNEL_JOINED_TOO_LONG 16     /* EXAPPEND or EXPREPEND to more than 64 bytes */
 #define PIETRUNEL_TABLE_FULL 17          /* no record is free */

@@ -1,25 +1,30 @@
--- The tests of a sum one by one: what the model's `sum` is where one fails, and where all pass. Each law follows by the cases of its tests.
+-- What the floor makes of an exact sum, and its tests one by one: what the model's `bounded` is where one fails, and where all pass. Each law
+-- follows by the cases of its tests.
 use mathlib.Core.Path.{_≡_, refl, sym, ap, _∙_}
 use mathlib.Core.Bool.{Bool, true, false, cond, not}
-use mathlib.Core.List.{List}
+use mathlib.Core.List.{List, [], _∷_}
 use mathlib.Core.Option.{Option, none, some}
 use Prim.Native.Nat.{ℕ}
 use native.Mathlib.Omega.{arith}
 use mir.Syntax.{w64}
 use mir.Val.{SFits}
-use lib.IntN.{ℤ, pos, negsuc, _+ℤ_}
-use lib.Signed.{ltZ}
-use Rattle.model.specs.Checked.{Checked, refuse, ok, given, _>>=_}
+use lib.IntN.{ℤ, pos, negsuc}
+use lib.Signed.{ltZ, nonNeg}
+use denote.Enum.Declared.{tagOf}
+use types.Run.{OneOf, miss}
+use Rattle.model.specs.Checked.{refuse, ok, given, _>>=_}
 use Rattle.model.specs.Number.{isSigned, readSigned}
 use Rattle.model.specs.Command.{Increment}
-use Rattle.model.specs.Execute.{notBelow, notAbove, floored, sum, total}
+use Rattle.model.specs.Execute.{notBelow, notAbove, floored, bounded, sum, total}
 use Rattle.command.specs.Command.{modelBound}
 use Rattle.command.specs.declared.Bound.{Bound}
 use Rattle.command.specs.declared.Bound.the-variants as Bound
 use Rattle.number.proofs.Integers.{lt-true, back, back-is}
 use Rattle.number.specs.Answer.{signedFrom, sumFrom}
 use Rattle.number.specs.declared.Signed.the-variants as Signed
-use Rattle.number.specs.declared.Sum.the-variants.{Fits, Overflow}
+use Rattle.number.specs.declared.Sum.{Sum}
+use Rattle.number.specs.declared.Sum.the-variants.{Fits, Under, Over}
+use Rattle.number.proofs.Sum.{the-type}
 
 -- two constructors are never equal
 clash : {X : Type 0} → _≡_ {A = ℕ} 0 1 → X
@@ -44,35 +49,52 @@ pub floored-other : (z : ℤ) → ltZ z (pos 0) ≡ false → floored true z ≡
 floored-other (pos n) t = refl
 floored-other (negsuc n) t = clash cc
 
+-- ---- the exact sum and its floor
+
+-- what holds of the three answers holds of the answer
+by-side : (P : Sum → Type 0) (z : ℤ) → (isSigned z ≡ true → P (Fits z)) → (nonNeg z ≡ false → isSigned z ≡ false → P Under)
+    → (nonNeg z ≡ true → isSigned z ≡ false → P Over) → P (sumFrom z)
+by-side P z f g h = go (isSigned z) (nonNeg z) refl refl
+  where
+    go : (t u : Bool) → isSigned z ≡ t → nonNeg z ≡ u → P (cond t (Fits z) (cond u Over Under))
+    go true u p q = f p
+    go false false p q = g q p
+    go false true p q = h q p
+
+-- what fits is the sum itself
+sum-fits : (z s : ℤ) → sumFrom z ≡ Fits s → (isSigned z ≡ true) × (z ≡ s)
+sum-fits z s = by-side (λ (x : Sum). x ≡ Fits s → (isSigned z ≡ true) × (z ≡ s)) z (λ p e. (p, cc)) (λ n p e. clash cc) (λ n p e. clash cc)
+
+pub fits-floored : (nn : Bool) (z s : ℤ) → sumFrom z ≡ Fits s → sumFrom (floored nn z) ≡ Fits (floored nn s)
+fits-floored false z s e = e
+fits-floored true (pos n) s e = rw (sum-fits (pos n) s e .0, sym (sum-fits (pos n) s e .1))
+fits-floored true (negsuc n) s e = rw (sym (sum-fits (negsuc n) s e .1))
+
+pub under-floored : (z : ℤ) → sumFrom z ≡ Under → sumFrom (floored true z) ≡ Fits (pos 0)
+under-floored z = by-side (λ (x : Sum). x ≡ Under → sumFrom (floored true z) ≡ Fits (pos 0)) z (λ p e. clash cc) (λ n p e. rw n) (λ n p e. clash cc)
+
+pub over-floored : (nn : Bool) (z : ℤ) → sumFrom z ≡ Over → sumFrom (floored nn z) ≡ Over
+over-floored false z e = e
+over-floored true z e = by-side (λ (x : Sum). x ≡ Over → sumFrom (floored true z) ≡ Over) z (λ p e. clash cc) (λ n p e. clash cc) (λ n p e. simp (n, p)) e
+
 module _ (i : Increment) where
-  -- ---- the sum
+  -- ---- the tests of a sum, floored
 
-  module _ (a : ℤ) where
-    -- outside 64 bits
-    pub sum-outside : sumFrom (a +ℤ i .by) ≡ Overflow → sum i a ≡ refuse 14
-    sum-outside e = go (isSigned (a +ℤ i .by)) refl e
-      where
-        go : (t : Bool) → isSigned (a +ℤ i .by) ≡ t → cond t (Fits (a +ℤ i .by)) Overflow ≡ Overflow → sum i a ≡ refuse 14
-        go true p q = clash cc
-        go false p q = rw p
+  module _ (z : ℤ) where
+    -- outside 64 bits, on either side
+    pub bounded-outside : OneOf (1 ∷ 2 ∷ []) (tagOf the-type (sumFrom z)) → bounded i z ≡ refuse 14
+    bounded-outside =
+        by-side (λ (x : Sum). OneOf (1 ∷ 2 ∷ []) (tagOf the-type x) → bounded i z ≡ refuse 14) z (λ p h. absurd (miss (1 ∷ 2 ∷ []) 0 tt h)) (λ n p h. rw p) (λ n p h. rw p)
 
-    module _ (s : ℤ) (e : sumFrom (a +ℤ i .by) ≡ Fits s) where
-      sum-fits : (isSigned (a +ℤ i .by) ≡ true) × (a +ℤ i .by ≡ s)
-      sum-fits = go (isSigned (a +ℤ i .by)) refl e
-        where
-          go : (t : Bool) → isSigned (a +ℤ i .by) ≡ t → cond t (Fits (a +ℤ i .by)) Overflow ≡ Fits s
-              → (isSigned (a +ℤ i .by) ≡ true) × (a +ℤ i .by ≡ s)
-          go true p q = (p, cc)
-          go false p q = clash cc
+    module _ (s : ℤ) (e : sumFrom z ≡ Fits s) where
+      pub bounded-low : notBelow (i .min) s ≡ false → bounded i z ≡ refuse 14
+      bounded-low q = rw (sum-fits z s e .0, sum-fits z s e .1, q)
 
-      pub sum-low : notBelow (i .min) s ≡ false → sum i a ≡ refuse 14
-      sum-low q = rw (sum-fits .0, sum-fits .1, q)
+      pub bounded-high : notBelow (i .min) s ≡ true → notAbove (i .max) s ≡ false → bounded i z ≡ refuse 14
+      bounded-high p q = rw (sum-fits z s e .0, sum-fits z s e .1, p, q)
 
-      pub sum-high : notBelow (i .min) s ≡ true → notAbove (i .max) s ≡ false → sum i a ≡ refuse 14
-      sum-high p q = rw (sum-fits .0, sum-fits .1, p, q)
-
-      pub sum-within : notBelow (i .min) s ≡ true → notAbove (i .max) s ≡ true → sum i a ≡ ok (floored (i .nonNegative) s)
-      sum-within p q = rw (sum-fits .0, sum-fits .1, p, q)
+      pub bounded-within : notBelow (i .min) s ≡ true → notAbove (i .max) s ≡ true → bounded i z ≡ ok s
+      bounded-within p q = rw (sum-fits z s e .0, sum-fits z s e .1, p, q)
 
   -- ---- the number of a stored text
 

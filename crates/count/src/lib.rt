@@ -5,8 +5,10 @@ use number::Signed;
 use number::Sum;
 ghost use mathlib.Core.Path.{_≡_};
 ghost use mathlib.Core.Option.{none, some};
+ghost use lib.IntN.{_+ℤ_};
 ghost use Rattle.model.specs.Execute.{notBelow, notAbove, floored, sum, total};
 ghost use Rattle.command.specs.Command.{modelBound, modelIncrement};
+ghost use Rattle.number.specs.Answer.{sumFrom};
 ghost use Rattle.count.specs.Counted.{checkedCounted};
 
 // A sum, or the number of the refusal, 13 or 14.
@@ -54,15 +56,30 @@ fn floor(non_negative: bool, z: i64) -> i64
     z
 }
 
-// The sum of a stored number and the increment, tested against 64 bits, MIN and MAX, and after that floored.
+// The exact sum of two numbers, with NONEGATIVE 0 for one below 0, however far below; or the side on which it leaves 64 bits.
+fn add_floored(non_negative: bool, a: i64, b: i64) -> Sum
+    ensures { λ r. ⌜ r ≡ sumFrom (floored «non_negative» (a +ℤ b)) ⌝ }
+{
+    match number::add(a, b) {
+        Sum::Fits(z) => Sum::Fits(floor(non_negative, z)),
+        Sum::Under => {
+            if non_negative {
+                Sum::Fits(0)
+            } else {
+                Sum::Under
+            }
+        }
+        Sum::Over => Sum::Over,
+    }
+}
+
+// The sum of a stored number and the increment, floored, and after that tested against 64 bits, MIN and MAX.
 pub fn sum(increment: Increment, stored: i64) -> Counted
     ensures { λ r. ⌜ checkedCounted r ≡ sum (modelIncrement increment) stored ⌝ }
 {
-    let Sum::Fits(z) = number::add(stored, increment.by) else {
+    let Sum::Fits(z) = add_floored(increment.non_negative, stored, increment.by) else {
         return Counted::Refused(14);
     };
-    // the range is tested on the sum itself, not on what is kept of it
-    let kept = floor(increment.non_negative, z);
     let min = increment.min;
     let max = increment.max;
     if !not_below(min, z) {
@@ -71,7 +88,7 @@ pub fn sum(increment: Increment, stored: i64) -> Counted
     if !not_above(max, z) {
         return Counted::Refused(14);
     }
-    Counted::Value(kept)
+    Counted::Value(z)
 }
 
 // The sum where the key is absent: it counts from 0.

@@ -1,4 +1,4 @@
--- Rules of document 01 that a wrong definition could break unseen by the bench sheet, each as a law about `execute`.
+-- Rules of documents 01 and 02 that a wrong definition could break unseen by the bench sheet, each as a law about `execute` or a part of it.
 use mathlib.Core.Path.{_≡_, refl, ap, _∙_}
 use mathlib.Core.Bool.{Bool, true, false}
 use mathlib.Core.List.{List}
@@ -6,6 +6,8 @@ use mathlib.Core.Option.{Option, none, some, Option·map}
 use Prim.Native.Nat.{ℕ, suc, _≤_}
 use lib.ListN.{length}
 use lib.Dec.{leb, ltb, eqb}
+use lib.IntN.{ℤ, pos, _+ℤ_}
+use lib.Signed.{nonNeg}
 use borrow.Author.Tests.{le-ltb}
 use Rattle.model.specs.Checked.{Checked, refuse, ok}
 use Rattle.model.specs.Number.{versionLimit}
@@ -13,7 +15,7 @@ use Rattle.model.specs.Table.{Form, Record, Slot, empty, used}
 use Rattle.model.specs.Search.{Placed, Lookup, liveAt, lookup, liveRecord}
 use Rattle.model.specs.Resp.{one, nil}
 use Rattle.model.specs.Command.{Change, raise, Expire, Terms, Set, Increment, Join, Action, exset, exincrby, excas, exjoin, under}
-use Rattle.model.specs.Execute.{Effect, answer, store, versionAfter, agrees, New, total, put, write, allowed, orNil, admit, executeOn, execute}
+use Rattle.model.specs.Execute.{Effect, answer, store, versionAfter, agrees, New, counter, notBelow, notAbove, bounded, total, put, write, allowed, orNil, admit, executeOn, execute}
 use Rattle.model.proofs.Basics.{by-cond}
 use Rattle.model.proofs.Steps.{Comes, Any, by-check, by-given, by-step, by-next}
 
@@ -125,3 +127,25 @@ module _ (f : Form) (now : ℕ) (ss : List Slot) (k : List ℕ) where
 
 pub top-refused : (ver : Option ℕ) (r : Record) → versionLimit ≤ suc (r .version) → versionAfter (raise ver) (some r) ≡ refuse 15
 top-refused ver r h = rw (le-ltb (suc (r .version)) versionLimit h)
+
+-- ---- the sum of EXINCRBY, before 64 bits, MIN and MAX are tested
+
+module _ (i : Increment) (stored : Option (List ℕ)) (a : ℤ) (c : counter stored ≡ ok a) where
+  -- without NONEGATIVE it is the exact sum
+  pub exact-unasked : i .nonNegative ≡ false → total i stored ≡ bounded i (a +ℤ i .by)
+  unfolding total
+  exact-unasked n = rw (c, n)
+
+  module _ (n : i .nonNegative ≡ true) where
+    -- with it too where that is not below 0
+    pub gain-exact : nonNeg (a +ℤ i .by) ≡ true → total i stored ≡ bounded i (a +ℤ i .by)
+    unfolding total
+    gain-exact s = rw (c, n, s)
+
+    -- below 0, however far, it is 0, which MIN and MAX alone can refuse
+    pub drain-floored : nonNeg (a +ℤ i .by) ≡ false → total i stored ≡ bounded i (pos 0)
+    unfolding total
+    drain-floored s = rw (c, n, s)
+
+    pub drain-stored : nonNeg (a +ℤ i .by) ≡ false → notBelow (i .min) (pos 0) ≡ true → notAbove (i .max) (pos 0) ≡ true → total i stored ≡ ok (pos 0)
+    drain-stored s p q = drain-floored s ∙ rw (p, q)

@@ -8,7 +8,7 @@ use Prim.Native.Nat.{ℕ, suc, _≤_, _<_}
 use native.Mathlib.Omega.{arith}
 use lib.ListN.{length}
 use lib.Dec.{leb, ltb, eqb}
-use lib.IntN.{ℤ, pos, negsuc, _+ℤ_}
+use lib.IntN.{ℤ, _+ℤ_}
 use borrow.Author.Tests.{leb-true, ltb-true}
 use Rattle.model.specs.Checked.{Checked, ok}
 use Rattle.model.specs.Number.{versionLimit, flagsLimit, isSigned, readSigned}
@@ -17,7 +17,7 @@ use Rattle.model.specs.Search.{Placed, Lookup, liveAt, expiredAt, absent
 use Rattle.model.specs.Resp.{Reply, one, nil}
 use Rattle.model.specs.Command.{Change, raise, set, Expire, clear, keep, at, Terms, Increment, Action, exset, exget, exsetver, exincrby, excas, excad, exjoin, exgae, del, Command}
 use Rattle.model.specs.Parse.{wordAt}
-use Rattle.model.specs.Execute.{Effect, answer, store, agrees, versionAfter, expiryAfter, flagsAfter, New, counter, notBelow, notAbove, floored, total, counted, swapping, put, write, writeIf, allowed, orNil, onLive, act, execute, number}
+use Rattle.model.specs.Execute.{Effect, answer, store, agrees, versionAfter, expiryAfter, flagsAfter, New, counter, notBelow, notAbove, floored, bounded, total, counted, swapping, put, write, writeIf, allowed, orNil, onLive, act, execute, number}
 use Rattle.model.proofs.Basics.{and-left, by-cond}
 use Rattle.model.proofs.Records.{InRange, Kept}
 use Rattle.model.proofs.Tables.{All, all-at}
@@ -89,22 +89,17 @@ renumbered f r n x h hn hx = record {
 
 -- ---- EXINCRBY's number
 
-floored-signed : (nn : Bool) (z : ℤ) → isSigned z ≡ true → isSigned (floored nn z) ≡ true
-floored-signed false z h = h
-floored-signed true (pos n) h = h
-floored-signed true (negsuc n) h = refl
-
 abbrev pub Signed : ℤ → Type 0
 Signed z = isSigned z ≡ true
 
+bounded-signed : (i : Increment) (z : ℤ) → Comes Executing Signed (bounded i z)
+bounded-signed i z =
+    by-check Executing Signed 14 (isSigned z && notBelow (i .min) z && notAbove (i .max) z) _ (omega arith) λ h14.
+    and-left (isSigned z) (notBelow (i .min) z) (and-left (isSigned z && notBelow (i .min) z) (notAbove (i .max) z) h14)
+
 pub total-signed : (i : Increment) (s : Option (List ℕ)) → Comes Executing Signed (total i s)
 unfolding total
-total-signed i s =
-    by-step Executing Signed Any (counter s) _ (start s) λ a u.
-    by-check Executing Signed 14 (isSigned (a +ℤ i .by) && notBelow (i .min) (a +ℤ i .by) && notAbove (i .max) (a +ℤ i .by)) _ (omega arith) λ h14.
-    floored-signed (i .nonNegative) (a +ℤ i .by)
-    (and-left (isSigned (a +ℤ i .by)) (notBelow (i .min) (a +ℤ i .by))
-    (and-left (isSigned (a +ℤ i .by) && notBelow (i .min) (a +ℤ i .by)) (notAbove (i .max) (a +ℤ i .by)) h14))
+total-signed i s = by-step Executing Signed Any (counter s) _ (start s) λ a u. bounded-signed i (floored (i .nonNegative) (a +ℤ i .by))
   where
     start : (s : Option (List ℕ)) → Comes Executing Any (counter s)
     start none = tt

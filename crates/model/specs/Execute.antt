@@ -125,16 +125,20 @@ abbrev pub notAbove : Option ℤ → ℤ → Bool
 notAbove none z = true
 notAbove (some max) z = not (ltZ max z)
 
--- NONEGATIVE makes 0 of a sum below 0
+-- NONEGATIVE makes 0 of a sum below 0, however far below
 abbrev pub floored : (nonNegative : Bool) → ℤ → ℤ
 floored true z = cond (nonNeg z) z (pos 0)
 floored false z = z
 
--- the sum is tested against 64 bits, MIN and MAX, and after that floored
+-- a number within 64 bits, MIN and MAX
+abbrev pub bounded : Increment → ℤ → Checked ℤ
+bounded i z = do
+  check 14 (isSigned z && notBelow (i .min) z && notAbove (i .max) z)
+  ok z
+
+-- the exact sum, of any size, is floored first, and what is left is tested
 abbrev pub sum : Increment → (counter : ℤ) → Checked ℤ
-sum i a = do
-  check 14 (isSigned (a +ℤ i .by) && notBelow (i .min) (a +ℤ i .by) && notAbove (i .max) (a +ℤ i .by))
-  ok (floored (i .nonNegative) (a +ℤ i .by))
+sum i a = bounded i (floored (i .nonNegative) (a +ℤ i .by))
 
 -- what EXINCRBY comes to: tests 13 and 14
 unfoldable pub total : Increment → (stored : Option (List ℕ)) → Checked ℤ

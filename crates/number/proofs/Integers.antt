@@ -72,7 +72,7 @@ up-add (negsuc a) (pos b) = omega (arith, up-by b (suc a) (ltb b (suc a)) refl)
 up-add (negsuc a) (negsuc b) = omega arith
 
 -- what holds of either sign where the parts make the sum holds of the sum
-by-sum : (P : ℤ → Type 0) (a b : ℤ) → ((n : ℕ) → n + (dn a + dn b) ≡ up a + up b → P (pos n)) → ((n : ℕ) → dn a + dn b ≡ suc n + (up a + up b) → P (negsuc n))
+pub by-sum : (P : ℤ → Type 0) (a b : ℤ) → ((n : ℕ) → n + (dn a + dn b) ≡ up a + up b → P (pos n)) → ((n : ℕ) → dn a + dn b ≡ suc n + (up a + up b) → P (negsuc n))
     → P (a +ℤ b)
 by-sum P a b f g = go (a +ℤ b) (up-add a b)
   where
@@ -80,15 +80,9 @@ by-sum P a b f g = go (a +ℤ b) (up-add a b)
     go (pos n) e = f n (omega arith)
     go (negsuc n) e = g n (omega arith)
 
--- a sum is in a range, is above it, is below it
+-- a sum is in a range
 pub mag-add : (a b : ℤ) (h : ℕ) → up a + up b < h + (dn a + dn b) → dn a + dn b ≤ h + (up a + up b) → mag (a +ℤ b) < h
 mag-add a b h x y = by-sum (λ (z : ℤ). mag z < h) a b (λ n e. omega arith) (λ n e. omega arith)
-
-pub mag-over : (a b : ℤ) (h : ℕ) → h + (dn a + dn b) ≤ up a + up b → h ≤ mag (a +ℤ b)
-mag-over a b h x = by-sum (λ (z : ℤ). h ≤ mag z) a b (λ n e. omega arith) (λ n e. absurd (omega arith))
-
-pub mag-under : (a b : ℤ) (h : ℕ) → h + (up a + up b) < dn a + dn b → h ≤ mag (a +ℤ b)
-mag-under a b h x = by-sum (λ (z : ℤ). h ≤ mag z) a b (λ n e. absurd (omega arith)) (λ n e. omega arith)
 
 pub up-neg : (z : ℤ) → up (negℤ z) ≡ dn z
 up-neg (pos zero) = refl

@@ -3,6 +3,7 @@ use Prim.Native.Nat.{ℕ}
 use mathlib.Core.Bool.{cond}
 use mathlib.Core.Option.{Option, none, some, Option·map}
 use lib.IntN.{ℤ, pos, negℤ}
+use lib.Signed.{nonNeg}
 use Rattle.model.specs.Optional.{only}
 use Rattle.model.specs.Number.{isSigned}
 use Rattle.number.specs.declared.Signed.{Signed}
@@ -10,7 +11,7 @@ use Rattle.number.specs.declared.Signed.the-variants as Signed
 use Rattle.number.specs.declared.Natural.{Natural}
 use Rattle.number.specs.declared.Natural.the-variants as Natural
 use Rattle.number.specs.declared.Sum.{Sum}
-use Rattle.number.specs.declared.Sum.the-variants.{Fits, Overflow}
+use Rattle.number.specs.declared.Sum.the-variants.{Fits, Under, Over}
 
 -- a signed number, or none
 abbrev pub signedFrom : Option ℤ → Signed
@@ -22,9 +23,9 @@ abbrev pub naturalFrom : Option ℕ → Natural
 naturalFrom none = Natural.Bad
 naturalFrom (some n) = Natural.Value n
 
--- a sum, where it is in 64 signed bits
+-- a sum, where it is in 64 signed bits, or the side on which it leaves them
 abbrev pub sumFrom : ℤ → Sum
-sumFrom z = cond (isSigned z) (Fits z) Overflow
+sumFrom z = cond (isSigned z) (Fits z) (cond (nonNeg z) Over Under)
 
 -- minus a number, where that is in 64 signed bits
 abbrev pub negativeFrom : Option ℕ → Signed

@@ -21,10 +21,11 @@ pub enum Natural {
     Bad,
 }
 
-// A sum, if it fits.
+// A sum, if it fits, or the side on which it leaves 64 signed bits.
 pub enum Sum {
     Fits(i64),
-    Overflow,
+    Under,
+    Over,
 }
 
 // The least and the greatest signed number of 64 bits.
@@ -147,17 +148,17 @@ pub fn read_flags(s: &[u8]) -> Natural
     read_below(s, 4294967296)
 }
 
-// The exact sum, or that it leaves 64 signed bits.
+// The exact sum, or the side on which it leaves 64 signed bits.
 pub fn add(a: i64, b: i64) -> Sum
     ensures { λ r. ⌜ r ≡ sumFrom (a +ℤ b) ⌝ }
 {
     if b < 0 {
         if a < LEAST - b {
-            return Sum::Overflow;
+            return Sum::Under;
         }
     } else {
         if MOST - b < a {
-            return Sum::Overflow;
+            return Sum::Over;
         }
     }
     Sum::Fits(a + b)

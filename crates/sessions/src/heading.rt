@@ -2,7 +2,7 @@
 use number::Natural;
 use terminal::print;
 
-// Whether commands are rows of the bench sheet, on a table of one record, and the time of a call.
+// Whether commands are calls of document 01 or 02, on a table of one record, and the time of a call.
 pub struct Setting {
     pub rows: bool,
     pub time: u64,
@@ -44,7 +44,7 @@ pub fn follow(table: &mut [u8; 256], setting: Setting, line: &[u8]) -> Setting {
     if begins(line, b"-- time ") {
         return timed(setting, line);
     }
-    let rows = begins(line, b"-- Document 01");
+    let rows = begins(line, b"-- Document ");
     let sessions = begins(line, b"-- Documents");
     if rows | sessions | begins(line, b"-- FLUSHALL") {
         *table = [0u8; 256];

@@ -83,6 +83,11 @@ impl<'a> Command<'a> {
     /// let add = Command::new("EXINCRBY").arg("foo").number(-5);
     /// assert_eq!(add.call(&mut table, 1000, &mut room), Ok(Reply::Integer(-5)));
     ///
+    /// // NONEGATIVE makes 0 of a sum below 0, and MIN is tested after that.
+    /// let drain = Command::new("EXINCRBY").arg("foo").number(-10);
+    /// let drain = drain.arg("NONEGATIVE").arg("MIN").number(0);
+    /// assert_eq!(drain.call(&mut table, 1000, &mut room), Ok(Reply::Integer(0)));
+    ///
     /// let other = Command::new("EXSET").arg("bar").arg("x");
     /// let refused = other.call(&mut table, 1000, &mut room);
     /// assert_eq!(refused, Err(Refusal::Error(Error::TableFull)));

@@ -25,7 +25,8 @@ pub enum Error {
     StaleVersion,
     /// 13: EXINCRBY on a value that is no number.
     StoredNotANumber,
-    /// 14: the sum leaves 64 signed bits, or MIN and MAX.
+    /// 14: the sum leaves 64 signed bits, or MIN and MAX. NONEGATIVE comes first: it makes 0 of a
+    /// sum below 0, however far below.
     SumOutOfRange,
     /// 15: the version is at its top and would rise.
     VersionAtTop,

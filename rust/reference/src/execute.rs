@@ -202,13 +202,15 @@ impl Place<'_> {
     }
 }
 
-/// The sum is tested against 64 bits, MIN and MAX; after that NONEGATIVE makes
-/// 0 of one below 0.
+/// NONEGATIVE makes 0 of an exact sum below 0, of any size; only then come the
+/// tests against 64 bits, MIN and MAX.
 fn sum(increment: &Increment, counter: i64) -> Checked<i64> {
-    let sum = given(14, counter.checked_add(increment.by))?;
+    let exact = i128::from(counter) + i128::from(increment.by);
+    let kept = if increment.non_negative { exact.max(0) } else { exact };
+    let sum = given(14, i64::try_from(kept).ok())?;
     check(14, increment.min.is_none_or(|min| sum >= min))?;
     check(14, increment.max.is_none_or(|max| sum <= max))?;
-    Ok(if increment.non_negative && sum < 0 { 0 } else { sum })
+    Ok(sum)
 }
 
 /// Value and version, and perhaps flags.

@@ -1,5 +1,5 @@
-//! The store of document 01, written to be read and not to be fast: the oracle
-//! that the library is tried against.
+//! The store of document 01, with what document 02 changes, written to be read
+//! and not to be fast: the oracle that the library is tried against.
 //!
 //! A call decodes the table into slots and the command into words, parses the
 //! words, executes the command and encodes the reply and the changed slot. The

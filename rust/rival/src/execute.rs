@@ -133,11 +133,19 @@ pub unsafe fn execute(
         } else {
             0
         };
-        let (exact, over) = start.overflowing_add(c.number);
-        if over || exact < c.min || exact > c.max {
+        let (wrapped, outside) = start.overflowing_add(c.number);
+        // Outside 64 bits the sum has the sign of both its terms.
+        let negative = if outside { start < 0 } else { wrapped < 0 };
+        if negative && c.options & NONEGATIVE != 0 {
+            sum = 0;
+        } else if outside {
+            return 14;
+        } else {
+            sum = wrapped;
+        }
+        if sum < c.min || sum > c.max {
             return 14;
         }
-        sum = if c.options & NONEGATIVE != 0 { exact.max(0) } else { exact };
     }
     let version = if c.options & ABS != 0 {
         c.version

@@ -1,5 +1,6 @@
-//! For measuring only: the store of document 01, written by hand for speed. The benchmark holds
-//! the library's time and instructions against it; its tests hold it against the reference.
+//! For measuring only: the store of document 01, with what document 02 changes, written by hand for
+//! speed. The benchmark holds the library's time and instructions against it; its tests hold it
+//! against the reference.
 //!
 //! It has unsafe code and SSE2 loads, no heap and no copies while a command is read. One pass over
 //! the table checks each record, enters its key in a hash on the stack and notes the first empty

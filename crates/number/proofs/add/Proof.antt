@@ -3,7 +3,7 @@
 use mathlib.Core.Path.{_≡_, sym}
 use mathlib.Core.Logic.{⊎-elim}
 use mathlib.Core.Bool.{true, false}
-use Prim.Native.Nat.{_^_, _<_}
+use Prim.Native.Nat.{_+_, _^_, _≤_, _<_}
 use native.Mathlib.Omega.{arith}
 use lib.IntN.{ℤ, pos, negℤ, _+ℤ_, _-ℤ_}
 use lib.Signed.{ltZ, mag}
@@ -11,8 +11,8 @@ use mir.Syntax.{w64}
 use mir.Val.{SFits}
 use borrow.Author.Tests.{lt-ltb, le-ltb}
 use Rattle.number.specs.Answer.{sumFrom}
-use Rattle.number.specs.declared.Sum.the-variants.{Fits, Overflow}
-use Rattle.number.proofs.Integers.{least, most, back-is, lt-true, lt-false, up-lt, dn-le, mag-add, mag-over, mag-under, up-add, up-neg, dn-neg}
+use Rattle.number.specs.declared.Sum.the-variants.{Fits, Under, Over}
+use Rattle.number.proofs.Integers.{up, dn, least, most, back-is, lt-true, lt-false, up-lt, dn-le, by-sum, mag-add, up-add, up-neg, dn-neg}
 use Rattle.number.proofs.add.Statement.{statement}
 use Rattle.number.proofs.add.Tie as tie
 
@@ -27,13 +27,15 @@ module _ {a b : ℤ} (fa : SFits w64 a) (fb : SFits w64 b) where
       let t′ = lt-false b (pos 0) t in
       record { sfits = mag-add most (negℤ b) (2 ^ 63) (omega (arith, up-neg b, dn-neg b, up-lt fb)) (omega (arith, up-neg b, dn-neg b, up-lt fb)) }
 
-  under : ltZ a (least -ℤ b) ≡ true → sumFrom (a +ℤ b) ≡ Overflow
+  under : ltZ a (least -ℤ b) ≡ true → sumFrom (a +ℤ b) ≡ Under
   under t =
-      simp (le-ltb _ (2 ^ 63) (mag-under a b (2 ^ 63) (omega (arith, lt-true a (least -ℤ b) t, up-add least (negℤ b), up-neg b, dn-neg b))))
+      let h : 2 ^ 63 + (up a + up b) < dn a + dn b = omega (arith, lt-true a (least -ℤ b) t, up-add least (negℤ b), up-neg b, dn-neg b) in
+      by-sum (λ (z : ℤ). sumFrom z ≡ Under) a b (λ n e. absurd (omega arith)) (λ n e. simp (le-ltb n (2 ^ 63) (omega arith)))
 
-  over : ltZ (most -ℤ b) a ≡ true → sumFrom (a +ℤ b) ≡ Overflow
+  over : ltZ (most -ℤ b) a ≡ true → sumFrom (a +ℤ b) ≡ Over
   over t =
-      simp (le-ltb _ (2 ^ 63) (mag-over a b (2 ^ 63) (omega (arith, lt-true (most -ℤ b) a t, up-add most (negℤ b), up-neg b, dn-neg b))))
+      let h : 2 ^ 63 + (dn a + dn b) ≤ up a + up b = omega (arith, lt-true (most -ℤ b) a t, up-add most (negℤ b), up-neg b, dn-neg b) in
+      by-sum (λ (z : ℤ). sumFrom z ≡ Over) a b (λ n e. simp (le-ltb n (2 ^ 63) (omega arith))) (λ n e. absurd (omega arith))
 
   within-low : ltZ b (pos 0) ≡ true → ltZ a (least -ℤ b) ≡ false → mag (a +ℤ b) < 2 ^ 63
   within-low s t =

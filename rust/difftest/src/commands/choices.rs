@@ -79,12 +79,13 @@ pub fn time_word(rng: &mut Rng, faults: &Faults, time: u64, percent: usize) -> O
     Some((word, Some(number.to_string().into())))
 }
 
-/// Bounds beside the sum.
+/// Bounds beside the sum, or beside the 0 that NONEGATIVE makes of it.
 pub fn bounds(rng: &mut Rng, faults: &Faults, sum: i128) -> Vec<Choice> {
-    let beside = |rng: &mut Rng| match rng.below(4) {
+    let beside = |rng: &mut Rng| match rng.below(5) {
         0 => within(sum),
         1 => within(sum - 1),
         2 => within(sum + 1),
+        3 => rng.below(3) as i64 - 1,
         _ => words::number(rng),
     };
     let (a, b) = (beside(rng), beside(rng));

@@ -127,9 +127,11 @@ fn exincrby_counts() {
     // A shorter text leaves zeros.
     store.answer("EXINCRBY n -90", ":5\r\n");
     assert_eq!(store.record(0), record(&[(0, &[1, 1, 1]), (8, &[4]), (24, b"n"), (48, b"5")]));
-    // Bounds are tested on the sum before NONEGATIVE replaces it.
-    store.refuse("EXINCRBY n -10 MIN 0 NONEGATIVE", 14);
-    store.answer("EXINCRBY n -10 MIN -5 NONEGATIVE", ":0\r\n");
+    // NONEGATIVE replaces the sum before the bounds are tested.
+    store.refuse("EXINCRBY n -10 MIN 0", 14);
+    store.refuse("EXINCRBY n -10 MIN 1 NONEGATIVE", 14);
+    store.refuse("EXINCRBY n -10 MAX -1 NONEGATIVE", 14);
+    store.answer("EXINCRBY n -10 MIN 0 NONEGATIVE", ":0\r\n");
     store.answer("EXINCRBY n 0 MIN 0 MAX 0", ":0\r\n");
     store.refuse("EXINCRBY n 1 MAX 0", 14);
     // On an absent key, the bounds hold for the number itself, before 17.

@@ -56,8 +56,6 @@ fn the_largest_number_plus_one_is_14() {
     store.answer("EXINCRBY foo -1", ":9223372036854775806\r\n");
     store.answer("EXSET foo -9223372036854775808", "+OK\r\n");
     store.refuse("EXINCRBY foo -1", 14);
-    // NONEGATIVE comes after the test of the range.
-    store.refuse("EXINCRBY foo -1 NONEGATIVE", 14);
     store.answer("EXINCRBY foo 9223372036854775807", ":-1\r\n");
 }
 

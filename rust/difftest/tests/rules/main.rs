@@ -6,6 +6,7 @@ mod bench_sheet;
 mod current_value;
 mod rulings;
 mod sessions;
+mod sums;
 mod tables;
 
 use difftest::compare::LIBRARY;
