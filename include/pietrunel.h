@@ -5,16 +5,27 @@
  * changed table. All bytes are borrowed for the call: the library keeps no state and no pointer,
  * allocates nothing and calls nothing but memcpy, memmove, memset and memcmp.
  *
- * Commands: EXSET, EXGET, EXSETVER, EXINCRBY, EXCAS, EXCAD, EXAPPEND, EXPREPEND, EXGAE and DEL.
- * EXINCRBY with NONEGATIVE makes 0 of a sum below 0, however far below; after that it tests the sum
- * against 64 signed bits, MIN and MAX.
+ * Commands: EXSET, EXGET, EXSETVER, EXINCRBY, EXCAS, EXCAD, EXAPPEND, EXPREPEND, EXGAE, DEL and
+ * BITFIELD. EXINCRBY with NONEGATIVE makes 0 of a sum below 0, however far below; after that it tests
+ * the sum against 64 signed bits, MIN and MAX.
+ *
+ * BITFIELD key [GET type offset | SET type offset number | INCRBY type offset increment
+ *               | OVERFLOW WRAP|SAT|FAIL] ...
+ * Subcommands run left to right on the value, and the reply is the array of their answers: GET the
+ * number, SET the old one, INCRBY the new one or nil. A type is i1 to i64 or u1 to u63. An offset is
+ * 0 to 2^32 - 1; it counts bits, bit 0 being the top bit of byte 0, and after # fields of the type.
+ * A number for SET must fit its type. A field of SET or INCRBY must end at bit 511 or before, even if
+ * nothing would be written; GET reads anywhere, and past the end all bits are 0. A write grows the
+ * value with zeros to the field's last byte. An OVERFLOW holds for every INCRBY up to the next;
+ * without one a sum wraps. The version rises by one if a SET or INCRBY wrote, flags and expiry stay;
+ * else the table is untouched. An absent key is an empty value.
  *
  * Threads: calls on different tables may run at the same time. Calls on one table must be ordered
  * by the caller, for example by a lock; pietrunel_current_value only reads, so calls of it on one
  * table may run together.
  *
- * Size on x86-64: a call takes less than 4 KiB of stack (measured: 3,896 bytes, and what memset takes),
- * the library less than 24 KiB of code and constants (measured: 21.2 KiB). bench/footprint measures
+ * Size on x86-64: a call takes less than 5 KiB of stack (measured: 4,264 bytes, and what memset takes),
+ * the library less than 32 KiB of code and constants (measured: 28.6 KiB). bench/footprint measures
  * both: the stack by the frames along the deepest chain of calls in the machine code, the rest by
  * `size`.
  *
@@ -79,8 +90,8 @@ extern "C" {
 #define PIETRUNEL_AT_VALUE 48
 
 /*
- * The numbers that pietrunel_call gives back. The first test that fails decides, in this order.
- * Numbers above 17, of later libraries, act as 1 to 4 do.
+ * The numbers that pietrunel_call gives back. The first test that fails decides, in this order, but
+ * that BITFIELD tests 16 before 15. Numbers above 17, of later libraries, act as 1 to 4 do.
  */
 #define PIETRUNEL_ANSWERED 0 /* the command was carried out; also nil, 0, -1 and a stale EXCAS */
 
@@ -92,17 +103,17 @@ extern "C" {
 
 /* An error reply, "-ERR ... CR LF": the table is untouched. */
 #define PIETRUNEL_UNKNOWN_COMMAND 5
-#define PIETRUNEL_WORD_COUNT 6           /* too few words, or too many where no options are taken */
+#define PIETRUNEL_WORD_COUNT 6           /* too few words, or too many for EXSETVER, EXCAD or DEL */
 #define PIETRUNEL_TOO_LONG 7             /* key not 1 to 24 bytes, or value over 64 */
-#define PIETRUNEL_SYNTAX 8               /* an option is wrong */
-#define PIETRUNEL_NOT_A_NUMBER 9         /* a number word is wrong or out of its range */
+#define PIETRUNEL_SYNTAX 8               /* an option or a subcommand is wrong */
+#define PIETRUNEL_NOT_A_NUMBER 9         /* a number, type or offset is wrong or out of its range */
 #define PIETRUNEL_EXPIRE_TIME 10         /* a time word's number below 1, or expiry above 2^62 */
 #define PIETRUNEL_MIN_ABOVE_MAX 11
 #define PIETRUNEL_STALE_VERSION 12       /* VER differs from the live record's version */
 #define PIETRUNEL_STORED_NOT_A_NUMBER 13 /* EXINCRBY on a value that is no number */
 #define PIETRUNEL_SUM_OUT_OF_RANGE 14    /* outside 64 signed bits, MIN or MAX, after NONEGATIVE */
 #define PIETRUNEL_VERSION_AT_TOP 15      /* it would rise above 2^63 - 1 */
-#define PIETRUNEL_JOINED_TOO_LONG 16     /* EXAPPEND or EXPREPEND to more than 64 bytes */
+#define PIETRUNEL_JOINED_TOO_LONG 16     /* joined to over 64 bytes, or a field past bit 511 written */
 #define PIETRUNEL_TABLE_FULL 17          /* no record is free */
 
 /*

@@ -1,3 +1,2 @@
--- Laws of the codes of keywords and of rules.
-pub mod Codes
+-- Laws of rules, for this crate and those above it.
 pub mod Bits

@@ -6,7 +6,7 @@ use lib.IntN.{ℤ}
 use Rattle.model.specs.Checked.{Checked, refuse, ok}
 use Rattle.model.specs.Command as model
 use Rattle.model.specs.Command.{under}
-use Rattle.model.specs.Parse.{wordAt}
+use Rattle.model.specs.Parse.{wordAt, parseSubcommands}
 use Rattle.command.specs.declared.Presence.{Presence}
 use Rattle.command.specs.declared.Presence.the-variants as Presence
 use Rattle.command.specs.declared.Change.{Change}
@@ -23,6 +23,8 @@ use Rattle.command.specs.declared.Increment.{Increment}
 use Rattle.command.specs.declared.Join.{Join}
 use Rattle.command.specs.declared.Action.{Action}
 use Rattle.command.specs.declared.Action.the-variants as Action
+use Rattle.command.specs.declared.Task.{Task}
+use Rattle.command.specs.declared.Task.the-variants as Task
 use Rattle.command.specs.declared.Parsed.{Parsed}
 use Rattle.command.specs.declared.Parsed.the-variants as Parsed
 
@@ -86,7 +88,12 @@ modelAction v Action.Del = model.del
 abbrev pub modelCommand : (ws : List (List ℕ)) → Action → model.Command
 modelCommand ws a = under (wordAt 1 ws) (modelAction (wordAt 2 ws) a)
 
--- what is answered for the words ws: the command, or document 01's number of the refusal
+-- what the words ws ask for: BITFIELD may still be refused for its subcommands
+abbrev pub checkedTask : List (List ℕ) → Task → Checked model.Command
+checkedTask ws (Task.Action a) = ok (modelCommand ws a)
+checkedTask ws Task.Bitfield = parseSubcommands ws
+
+-- what is answered for the words ws: what they ask for, or document 01's number of the refusal
 abbrev pub checkedParsed : List (List ℕ) → Parsed → Checked model.Command
-checkedParsed ws (Parsed.Action a) = ok (modelCommand ws a)
+checkedParsed ws (Parsed.Task t) = checkedTask ws t
 checkedParsed ws (Parsed.Refused n) = refuse n

@@ -1,11 +1,15 @@
-// A command by value: what it does, its name and its options, and the rule of each name. The key and the value stay in the borrowed bytes, as
+// A command by value: what it does, its name, its options and its subcommands, and the rule of each name. The key and the value stay in the borrowed bytes, as
 // words 1 and 2.
-mod keyword;
+mod subcommand;
 
-pub use keyword::name_of;
-pub use keyword::option_of;
+pub use subcommand::Field;
+pub use subcommand::IntType;
+pub use subcommand::Mode;
+pub use subcommand::Operation;
+pub use subcommand::Sub;
+pub use subcommand::Subs;
 ghost use mathlib.Core.Path.{_≡_};
-ghost use Rattle.model.specs.Command.{ruleOf};
+ghost use Rattle.model.specs.Command.{ruleOf, bitfieldRule};
 ghost use Rattle.command.specs.Words.{modelName};
 ghost use Rattle.command.specs.Rules.{modelRule};
 
@@ -93,15 +97,22 @@ pub enum Action {
     Del,
 }
 
-// What a command does, or document 01's number of the refusal, 5 to 11.
-pub enum Parsed {
+// What a command asks for: an action, or BITFIELD, whose subcommands are still to be read. They stand in no action, since
+// every action would then be as large as they are.
+pub enum Task {
     Action(Action),
+    Bitfield,
+}
+
+// What a command asks for, or document 01's number of the refusal, 5 to 11.
+pub enum Parsed {
+    Task(Task),
     Refused(u32),
 }
 
 // ---- names and option words
 
-// The names of commands.
+// The names of the commands with options.
 pub enum Name {
     Exset,
     Exget,
@@ -115,9 +126,30 @@ pub enum Name {
     Del,
 }
 
-// The name that a word spells, if any.
+// The command that a word names, if any: one with options, or BITFIELD, which has subcommands.
 pub enum Named {
     Known(Name),
+    Bitfield,
+    Unknown,
+}
+
+// The names of subcommands.
+pub enum SubName {
+    Get,
+    Set,
+    Incrby,
+    Overflow,
+}
+
+// The subcommand that a word names, if any.
+pub enum SubNamed {
+    Known(SubName),
+    Unknown,
+}
+
+// The mode that a word names, if any.
+pub enum ModeNamed {
+    Known(Mode),
     Unknown,
 }
 
@@ -271,6 +303,23 @@ const DEL: Rule = Rule {
     timed: false,
     keeps: false,
 };
+
+const BITFIELD: Rule = Rule {
+    fixed: 2,
+    exact: false,
+    valued: false,
+    number: Number::Absent,
+    kinds: 0,
+    timed: false,
+    keeps: true,
+};
+
+// The rule of BITFIELD, as far as its fixed words go.
+pub fn bitfield_rule() -> Rule
+    ensures { λ r. ⌜ modelRule r ≡ bitfieldRule ⌝ }
+{
+    BITFIELD
+}
 
 // The rule of a command.
 pub fn rule_of(name: Name) -> Rule

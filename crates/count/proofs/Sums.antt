@@ -1,7 +1,7 @@
 -- What the floor makes of an exact sum, and its tests one by one: what the model's `bounded` is where one fails, and where all pass. Each law
 -- follows by the cases of its tests.
 use mathlib.Core.Path.{_≡_, refl, sym, ap, _∙_}
-use mathlib.Core.Bool.{Bool, true, false, cond, not}
+use mathlib.Core.Bool.{Bool, true, false, not}
 use mathlib.Core.List.{List, [], _∷_}
 use mathlib.Core.Option.{Option, none, some}
 use Prim.Native.Nat.{ℕ}
@@ -9,11 +9,11 @@ use native.Mathlib.Omega.{arith}
 use mir.Syntax.{w64}
 use mir.Val.{SFits}
 use lib.IntN.{ℤ, pos, negsuc}
-use lib.Signed.{ltZ, nonNeg}
+use lib.Signed.{ltZ}
 use denote.Enum.Declared.{tagOf}
 use types.Run.{OneOf, miss}
 use Rattle.model.specs.Checked.{refuse, ok, given, _>>=_}
-use Rattle.model.specs.Number.{isSigned, readSigned}
+use Rattle.model.specs.Number.{readSigned}
 use Rattle.model.specs.Command.{Increment}
 use Rattle.model.specs.Execute.{notBelow, notAbove, floored, bounded, sum, total}
 use Rattle.command.specs.Command.{modelBound}
@@ -25,10 +25,7 @@ use Rattle.number.specs.declared.Signed.the-variants as Signed
 use Rattle.number.specs.declared.Sum.{Sum}
 use Rattle.number.specs.declared.Sum.the-variants.{Fits, Under, Over}
 use Rattle.number.proofs.Sum.{the-type}
-
--- two constructors are never equal
-clash : {X : Type 0} → _≡_ {A = ℕ} 0 1 → X
-clash e = absurd (omega arith)
+use Rattle.number.proofs.Sums.{clash, by-answer, sum-fits}
 
 -- ---- the bounds: a test of two numbers of 64 bits, as code makes it, is the model's
 
@@ -51,31 +48,17 @@ floored-other (negsuc n) t = clash cc
 
 -- ---- the exact sum and its floor
 
--- what holds of the three answers holds of the answer
-by-side : (P : Sum → Type 0) (z : ℤ) → (isSigned z ≡ true → P (Fits z)) → (nonNeg z ≡ false → isSigned z ≡ false → P Under)
-    → (nonNeg z ≡ true → isSigned z ≡ false → P Over) → P (sumFrom z)
-by-side P z f g h = go (isSigned z) (nonNeg z) refl refl
-  where
-    go : (t u : Bool) → isSigned z ≡ t → nonNeg z ≡ u → P (cond t (Fits z) (cond u Over Under))
-    go true u p q = f p
-    go false false p q = g q p
-    go false true p q = h q p
-
--- what fits is the sum itself
-sum-fits : (z s : ℤ) → sumFrom z ≡ Fits s → (isSigned z ≡ true) × (z ≡ s)
-sum-fits z s = by-side (λ (x : Sum). x ≡ Fits s → (isSigned z ≡ true) × (z ≡ s)) z (λ p e. (p, cc)) (λ n p e. clash cc) (λ n p e. clash cc)
-
 pub fits-floored : (nn : Bool) (z s : ℤ) → sumFrom z ≡ Fits s → sumFrom (floored nn z) ≡ Fits (floored nn s)
 fits-floored false z s e = e
 fits-floored true (pos n) s e = rw (sum-fits (pos n) s e .0, sym (sum-fits (pos n) s e .1))
 fits-floored true (negsuc n) s e = rw (sym (sum-fits (negsuc n) s e .1))
 
 pub under-floored : (z : ℤ) → sumFrom z ≡ Under → sumFrom (floored true z) ≡ Fits (pos 0)
-under-floored z = by-side (λ (x : Sum). x ≡ Under → sumFrom (floored true z) ≡ Fits (pos 0)) z (λ p e. clash cc) (λ n p e. rw n) (λ n p e. clash cc)
+under-floored = by-answer (λ (z : ℤ) (x : Sum). x ≡ Under → sumFrom (floored true z) ≡ Fits (pos 0)) (λ z p e. clash cc) (λ n p e. refl) (λ n p e. clash cc)
 
 pub over-floored : (nn : Bool) (z : ℤ) → sumFrom z ≡ Over → sumFrom (floored nn z) ≡ Over
 over-floored false z e = e
-over-floored true z e = by-side (λ (x : Sum). x ≡ Over → sumFrom (floored true z) ≡ Over) z (λ p e. clash cc) (λ n p e. clash cc) (λ n p e. simp (n, p)) e
+over-floored true z e = by-answer (λ (z : ℤ) (x : Sum). x ≡ Over → sumFrom (floored true z) ≡ Over) (λ z p e. clash cc) (λ n p e. clash cc) (λ n p e. rw p) z e
 
 module _ (i : Increment) where
   -- ---- the tests of a sum, floored
@@ -84,7 +67,11 @@ module _ (i : Increment) where
     -- outside 64 bits, on either side
     pub bounded-outside : OneOf (1 ∷ 2 ∷ []) (tagOf the-type (sumFrom z)) → bounded i z ≡ refuse 14
     bounded-outside =
-        by-side (λ (x : Sum). OneOf (1 ∷ 2 ∷ []) (tagOf the-type x) → bounded i z ≡ refuse 14) z (λ p h. absurd (miss (1 ∷ 2 ∷ []) 0 tt h)) (λ n p h. rw p) (λ n p h. rw p)
+        by-answer (λ (z : ℤ) (x : Sum). OneOf (1 ∷ 2 ∷ []) (tagOf the-type x) → bounded i z ≡ refuse 14)
+        (λ z p h. absurd (miss (1 ∷ 2 ∷ []) 0 tt h))
+        (λ n p h. rw p)
+        (λ n p h. rw p)
+        z
 
     module _ (s : ℤ) (e : sumFrom z ≡ Fits s) where
       pub bounded-low : notBelow (i .min) s ≡ false → bounded i z ≡ refuse 14

@@ -2,25 +2,30 @@
 use Prim.Native.Nat.{ℕ, _≤_}
 use mathlib.Core.List.{List}
 use lib.ListN.{length}
-use Rattle.model.specs.Table.{Form, keyLimit}
+use Rattle.model.specs.Checked.{Checked}
+use Rattle.model.specs.Table.{Form}
+use Rattle.model.specs.Command.{bitfield}
+use Rattle.model.specs.Execute.{Effect, act}
 use Rattle.model.proofs.Commands.{ChangeOk}
+use Rattle.model.proofs.Basics.{All}
+use Rattle.model.proofs.Runs.{Typed}
 use Rattle.command.specs.Command.{modelChange}
+use Rattle.command.specs.Subcommand.{modelSubs}
+use Rattle.command.specs.declared.subcommand.Subs.{Subs}
 use Rattle.command.specs.declared.Action.{Action}
 use Rattle.command.specs.declared.Action.the-variants.{Exset, Exget, Exsetver, Exincrby, Excas, Excad, Exjoin, Exgae, Del}
 use Rattle.live.specs.declared.Target.{Target}
-use Rattle.live.specs.Under.{IsUnder, shapeOf}
-pub use Rattle.access.specs.Does.{Held, held, Room, actIn, Does}
+use Rattle.live.specs.Under.{shapeOf, lookupIn, slotIn}
+pub use Rattle.write.specs.Does.{Held, held, Room, SomeRoom, Ready, actIn, Does}
 
--- the buffer b has room for every reply about records of some form: all that a reply asks which shows no value
-pub record SomeRoom (b : List ℕ) : Type 0 where
-  pub form : Form
-  pub room : Room form b
+-- at most four subcommands, of known types
+pub record FieldsFit (ss : Subs) : Type 0 where
+  pub few : ss .count ≤ 4
+  pub typed : All Typed (modelSubs ss)
 
--- the target is what stands under the key k, which fits a record, and there is room for a reply
-pub record Ready (g : Target) (k : List ℕ) (old : Held) : Type 0 where
-  pub under : IsUnder (shapeOf g) (old .table) (g .time) k (g .found)
-  pub key : length k ≤ keyLimit
-  pub room : Room (shapeOf g) (old .reply)
+-- what BITFIELD does in the table t, at its target under the key k
+abbrev pub fieldsIn : (t : List ℕ) → Target → (k : List ℕ) → Subs → Checked Effect
+fieldsIn t g k ss = act (shapeOf g) k (lookupIn t g) (slotIn t g) (bitfield (modelSubs ss))
 
 -- the value v that an action stores fits a record, and a version that it sets is in range
 abbrev pub ActionFits : Form → (v : List ℕ) → Action → Type 0

@@ -1,2 +1,1 @@
 pub mod Does
-pub mod Finish

@@ -1,7 +1,8 @@
 // What each command does to the table, once its key is looked up, and what it answers.
-mod write;
+mod fields;
 
 use command::Action;
+pub use fields::bitfield;
 use live::Target;
 use reply::Answer;
 ghost use Rattle.live.specs.Under.{shapeOf};

@@ -18,14 +18,14 @@ use Rattle.record.specs.Record.{IsSlot, Readable, InUseOf, isUsed}
 use Rattle.record.proofs.Reading.{used-in-use, slot-unused}
 use Rattle.record.proofs.Checking.{in-use-key}
 use Rattle.table.specs.Slots.{Reads, slotsOf}
-use Rattle.table.specs.Index.{entryFrom, countOf, bucketOf, keyIs, keyEntry, Indexed, Enters, Chain}
+use Rattle.index.specs.Index.{entryFrom, countOf, bucketOf, keyIs, keyEntry, Indexed, Enters, Chain}
 use Rattle.table.proofs.Records.{count-is, readFrom, read-none, read-next, read-end, read-table}
 use Rattle.table.proofs.Search.{not-held, is-held}
 use Rattle.table.proofs.Parts.{length-slot, slot-is, slot-readable}
-use Rattle.table.proofs.Entries.{downward, entry-end}
-use Rattle.table.proofs.Chains.{inside-count, indexed-chain, indexed-entry}
-use Rattle.table.proofs.Keys.{entry-none, entry-some}
-use Rattle.table.proofs.Entering.{indexed-none, indexed-unused, indexed-used, indexed-after}
+use Rattle.index.proofs.Entries.{downward, entry-end}
+use Rattle.index.proofs.Chains.{inside-count, indexed-chain, indexed-entry}
+use Rattle.index.proofs.Keys.{entry-none, entry-some}
+use Rattle.index.proofs.Entering.{indexed-none, indexed-unused, indexed-used, indexed-after}
 use Rattle.integrity.specs.Check.{faultless, Fresh, EntersUsed}
 
 -- ---- equal keys

@@ -9,7 +9,7 @@ use Rattle.model.specs.Optional.{isSome}
 use Rattle.model.specs.Table.{Form, tableLimit, keyAt, keyLimit, readSlot, readTable, distinct}
 use Rattle.record.specs.Record.{isUsed}
 use Rattle.table.specs.Slots.{slotsOf}
-use Rattle.table.specs.Index.{countOf, Indexed, Enters}
+use Rattle.index.specs.Index.{countOf, Indexed, Enters}
 use Rattle.integrity.specs.declared.Entered.{Entered}
 use Rattle.integrity.specs.declared.Entered.the-variants.{Alone, After, Damaged}
 

@@ -42,7 +42,7 @@ pub fn check(table: &[u8], form: Form, heads: &mut [u8], next: &mut [u8]) -> boo
         match enter(r, form, i, heads, next) {
             Entered::Alone => {}
             Entered::After(first) => {
-                if table::search_chain(table, form, next, first, record::key(r)) != 0 {
+                if index::search_chain(table, form, next, first, record::key(r)) != 0 {
                     return false;
                 }
             }
@@ -78,7 +78,7 @@ fn enter(r: &[u8], form: Form, slot: usize, heads: &mut [u8], next: &mut [u8]) -
     if !record::is_record(r, form) {
         return Entered::Damaged;
     }
-    let first = table::enter(heads, next, slot, &r[KEY_AT..VALUE_AT]);
+    let first = index::enter(heads, next, slot, &r[KEY_AT..VALUE_AT]);
     if first == 0 {
         return Entered::Alone;
     }

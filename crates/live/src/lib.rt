@@ -16,7 +16,7 @@ ghost use Rattle.model.specs.Execute.{Effect, versionAfter, flagsAfter, expiryA
 ghost use Rattle.record.specs.Forms.{formOf};
 ghost use Rattle.command.specs.Command.{modelPresence, modelChange, modelExpire, modelTerms};
 ghost use Rattle.table.specs.Slots.{Reads};
-ghost use Rattle.table.specs.Index.{Indexed};
+ghost use Rattle.index.specs.Index.{Indexed};
 ghost use Rattle.live.specs.Under.{IsUnder, storedIn};
 ghost use Rattle.live.specs.After.{modelFlags, checkedVersion, admitted};
 
@@ -59,7 +59,7 @@ pub fn look_up(table: &[u8], form: Form, time: u64, key: &[u8], heads: &[u8], ne
     requires { ⌜ Indexed (formOf form) (now table) 0 (now heads) (now next) ⌝ }
     ensures { λ r. ⌜ IsUnder (formOf form) (now (table .entry)) time (now (key .entry)) r ⌝ }
 {
-    let Found::At(slot) = table::find(table, form, key, heads, next) else {
+    let Found::At(slot) = index::find(table, form, key, heads, next) else {
         return Lookup::Absent;
     };
     let r = table::record_at(table, form, slot);

@@ -6,7 +6,7 @@ use mathlib.Core.List.{List}
 use mathlib.Core.Option.{Option, none, some, Option·map}
 use Prim.Native.Nat.{ℕ, suc, _≤_, _<_}
 use native.Mathlib.Omega.{arith}
-use lib.ListN.{length}
+use lib.ListN.{length, drop, length-drop}
 use lib.Dec.{leb, ltb, eqb}
 use lib.IntN.{ℤ, _+ℤ_}
 use borrow.Author.Tests.{leb-true, ltb-true}
@@ -14,17 +14,20 @@ use Rattle.model.specs.Checked.{Checked, ok}
 use Rattle.model.specs.Number.{versionLimit, flagsLimit, isSigned, readSigned}
 use Rattle.model.specs.Table.{Form, Record, Slot, empty, used, timeLimit, keyLimit, distinct}
 use Rattle.model.specs.Search.{Placed, Lookup, liveAt, expiredAt, absent, lookup, liveRecord, slotFor}
-use Rattle.model.specs.Resp.{Reply, one, nil}
-use Rattle.model.specs.Command.{Change, raise, set, Expire, clear, keep, at, Terms, Increment, Action, exset, exget, exsetver, exincrby, excas, excad, exjoin, exgae, del, Command}
+use Rattle.model.specs.Resp.{wordLimit, Reply, one, nil}
+use Rattle.model.specs.Bitfield.{Sub, allEndWithin, Ran, runSubs, fieldsReply}
+use Rattle.model.specs.Command.{Change, raise, set, Expire, clear, keep, at, Terms, Increment, Action, exset, exget, exsetver, exincrby, excas, excad, exjoin, exgae, del, bitfield, Command}
 use Rattle.model.specs.Parse.{wordAt}
-use Rattle.model.specs.Execute.{Effect, answer, store, agrees, versionAfter, expiryAfter, flagsAfter, New, counter, notBelow, notAbove, floored, bounded, total, counted, swapping, put, write, writeIf, allowed, orNil, onLive, act, execute, number}
+use Rattle.model.specs.Execute.{Effect, answer, store, agrees, versionAfter, expiryAfter, flagsAfter, New, counter, notBelow, notAbove, floored, bounded, total, counted, valueOrEmpty, swapping, put, write, writeIf, storeRan, allowed, orNil, onLive, act, execute, number}
 use Rattle.model.proofs.Basics.{and-left, by-cond}
 use Rattle.model.proofs.Records.{InRange, Kept}
 use Rattle.model.proofs.Tables.{All, all-at}
 use Rattle.model.proofs.Search.{Hit, LiveHit, lookup-hit, Claim, hit-claim, slotFor-claim, NoOther, hit-sole, slotFor-sole, Under}
 use Rattle.model.proofs.Steps.{Comes, Any, by-check, by-given, of-given, by-step}
+use Rattle.model.proofs.Subcommands.{SubsRead}
+use Rattle.model.proofs.Runs.{runSubs-signed, results-length}
 use Rattle.model.proofs.Commands.{ChangeOk, ExpireOk, TermsOk, ActionOk, Known}
-use Rattle.model.proofs.Replies.{Roomy, Fits, number-fits, nil-fits, minusOne-fits, set-fits, get-fits, count-fits, swap-fits, stale-fits}
+use Rattle.model.proofs.Replies.{Roomy, Fits, number-fits, nil-fits, minusOne-fits, set-fits, get-fits, count-fits, swap-fits, stale-fits, fields-fits}
 
 -- the numbers of the refusals in executing
 pub record Executing (n : ℕ) : Type 0 where
@@ -41,7 +44,7 @@ pub record Written (f : Form) (now : ℕ) (k : List ℕ) (ss : List Slot) (j : �
 -- ---- version, expiry and flags in range
 
 module _ (f : Form) where
-  abbrev OldOk : Option Record → Type 0
+  abbrev pub OldOk : Option Record → Type 0
   OldOk none = Unit {0}
   OldOk (some r) = InRange f r
 
@@ -65,6 +68,19 @@ module _ (f : Form) where
   flags-after (some g) old h q = h
   flags-after none none h q = omega arith
   flags-after none (some r) h q = q .flags-to
+
+-- the record found under a key is in range
+module _ (f : Form) (ss : List Slot) (hk : All (Kept f) ss) (k : List ℕ) where
+  hit-ok : (p : Placed) → Hit k ss p → InRange f (p .rec)
+  hit-ok p h = all-at (Kept f) ss (p .at) (used (p .rec)) hk (h .there)
+
+  pub old-ok : (now : ℕ) → OldOk f (liveRecord (lookup now k ss))
+  old-ok now = go (lookup now k ss) (lookup-hit now k ss)
+    where
+      go : (l : Lookup) → LiveHit k ss l → OldOk f (liveRecord l)
+      go (liveAt p) h = hit-ok p h
+      go (expiredAt i) h = tt
+      go absent h = tt
 
 -- the version that is put is in range
 pub put-version : (f : Form) (k : List ℕ) (l : Lookup) (slot : Option ℕ) (t : Terms) (g : Option ℕ) (v : List ℕ) → ChangeOk (t .change)
@@ -116,9 +132,6 @@ module _ (f : Form) (w : Roomy f) (now : ℕ) (ss : List Slot) (hk : All (Kept f
   NewFits new = (n : ℕ) → n < versionLimit → Fits f w (new .reply n)
 
   module _ (k : List ℕ) (lo : 1 ≤ length k) (hi : length k ≤ keyLimit) where
-    found-ok : (p : Placed) → Hit k ss p → InRange f (p .rec)
-    found-ok p h = all-at (Kept f) ss (p .at) (used (p .rec)) hk (h .there)
-
     -- the slot of the record found under k
     own : (p : Placed) → Hit k ss p → (s : Slot) → Kept f s → Under k s → Written f now k ss (p .at) s
     own p h s ks us = record { claim = hit-claim now k ss p h; kept = ks; under = us; sole = hit-sole k ss (p .at) (p .rec) d (h .there) (h .key) }
@@ -128,14 +141,6 @@ module _ (f : Form) (w : Roomy f) (now : ℕ) (ss : List Slot) (hk : All (Kept f
 
     abbrev slot : Option ℕ
     slot = slotFor now ss l
-
-    old-ok : OldOk f (liveRecord l)
-    old-ok = go l (lookup-hit now k ss)
-      where
-        go : (l : Lookup) → LiveHit k ss l → OldOk f (liveRecord l)
-        go (liveAt p) h = found-ok p h
-        go (expiredAt i) h = tt
-        go absent h = tt
 
     on-live : (r : Reply) (g : Placed → Checked Effect) → Fits f w r → ((p : Placed) → Hit k ss p → Comes Executing (Fine k) (g p))
         → Comes Executing (Fine k) (onLive l r g)
@@ -165,9 +170,9 @@ module _ (f : Form) (w : Roomy f) (now : ℕ) (ss : List Slot) (hk : All (Kept f
                 key-from = lo;
                 key-to = hi;
                 value-to = leb-true (length v) (f .valueLimit) h16;
-                flags-to = flags-after f g (liveRecord l) hg old-ok;
+                flags-to = flags-after f g (liveRecord l) hg (old-ok f ss hk k now);
                 version-to = hn;
-                expiry-to = expiry-after f (t .expire) (liveRecord l) (ht .expire) old-ok;
+                expiry-to = expiry-after f (t .expire) (liveRecord l) (ht .expire) (old-ok f ss hk k now);
               })
               refl,
           hn,
@@ -191,32 +196,43 @@ module _ (f : Form) (w : Roomy f) (now : ℕ) (ss : List Slot) (hk : All (Kept f
         or-nil (allowed (t .presence) (liveRecord l)) _
         (by-check Executing (Fine k) 12 (agrees (t .change) (liveRecord l)) _ (omega arith) λ h12. fine-write t g make ht hg hv)
 
-    fine-act : (ws : List (List ℕ)) (a : Action) → ActionOk f ws a → Comes Executing (Fine k) (act f k l slot a)
-    fine-act ws (exset s) h = fine-write-if (s .terms) (some (s .flags)) _ (h .1) (h .2) λ v. set-fits f w (s .withVersion)
-    fine-act ws (exget b) h = on-live (one nil) _ (nil-fits f w) λ p q. get-fits f w b (p .rec) (found-ok p q)
-    fine-act ws (exsetver n) h =
+    fine-ran : (r : Ran) → Fits f w (fieldsReply (r .results)) → Comes Executing (Fine k) (storeRan f k l slot r)
+    fine-ran r h = by-cond (Comes Executing (Fine k)) (r .wrote) _ _ (fine-write (swapping keep) none _ (record { change = tt; expire = tt }) tt λ s n q. h) h
+
+    -- a command of at most 16 words has at most four subcommands
+    ran-fits : (ss : List Sub) (m : ℕ) → m ≤ 14 → SubsRead m ss → (v : List ℕ) → Fits f w (fieldsReply (runSubs ss v .results))
+    ran-fits ss m few h v = fields-fits f w (runSubs ss v .results) (omega (arith, h .few, results-length ss v)) (runSubs-signed ss v (h .typed))
+
+    fine-act : (ws : List (List ℕ)) (a : Action) → length ws ≤ wordLimit → ActionOk f ws a → Comes Executing (Fine k) (act f k l slot a)
+    fine-act ws (exset s) few h = fine-write-if (s .terms) (some (s .flags)) _ (h .1) (h .2) λ v. set-fits f w (s .withVersion)
+    fine-act ws (exget b) few h = on-live (one nil) _ (nil-fits f w) λ p q. get-fits f w b (p .rec) (hit-ok f ss hk k p q)
+    fine-act ws (exsetver n) few h =
         on-live (one (number 0)) _ (number-fits f w 0 (omega arith)) λ p q.
-        let old = found-ok p q in
+        let old = hit-ok f ss hk k p q in
         (own p q _ (renumbered f (p .rec) n (p .rec .expiry) old h (old .expiry-to)) (q .key), number-fits f w 1 (omega arith))
-    fine-act ws (exincrby i) h =
+    fine-act ws (exincrby i) few h =
         fine-write-if (i .terms) none (counted i) h tt λ s.
         by-step Executing NewFits Signed (total i s) _ (total-signed i s) λ z hz n. count-fits f w (i .withVersion) z n hz
-    fine-act ws (excas v n x) h =
+    fine-act ws (excas v n x) few h =
         on-live _ _ (minusOne-fits f w) λ p q.
         by-cond (Comes Executing (Fine k)) (eqb n (p .rec .version)) _ _ (fine-write (swapping x) none _ (record { change = tt; expire = h .1 }) tt λ s. swap-fits f w)
-        (stale-fits f w (p .rec) (found-ok p q))
-    fine-act ws (excad n) h =
+        (stale-fits f w (p .rec) (hit-ok f ss hk k p q))
+    fine-act ws (excad n) few h =
         on-live _ _ (minusOne-fits f w) λ p q.
         by-cond (Fine k) (eqb n (p .rec .version)) _ _ (own p q empty tt tt, number-fits f w 1 (omega arith)) (number-fits f w 0 (omega arith))
-    fine-act ws (exjoin j) h = fine-write-if (j .terms) none _ (h .1) tt λ s. number-fits f w
-    fine-act ws (exgae x) h =
+    fine-act ws (exjoin j) few h = fine-write-if (j .terms) none _ (h .1) tt λ s. number-fits f w
+    fine-act ws (exgae x) few h =
         on-live (one nil) _ (nil-fits f w) λ p q.
-        let old = found-ok p q in
+        let old = hit-ok f ss hk k p q in
         (own p q _ (renumbered f (p .rec) (p .rec .version) _ old (old .version-to) (expiry-after f x (some (p .rec)) h old)) (q .key), get-fits f w true (p .rec) old)
-    fine-act ws del h = on-live (one (number 0)) _ (number-fits f w 0 (omega arith)) λ p q. (own p q empty tt tt, number-fits f w 1 (omega arith))
+    fine-act ws del few h = on-live (one (number 0)) _ (number-fits f w 0 (omega arith)) λ p q. (own p q empty tt tt, number-fits f w 1 (omega arith))
+    fine-act ws (bitfield ss) few h =
+        by-check Executing (Fine k) 16 (allEndWithin (f .valueLimit) ss) _ (omega arith) λ h16.
+        let v = valueOrEmpty (liveRecord l) in
+        fine-ran (runSubs ss v) (ran-fits ss (length (drop 2 ws)) (omega (arith, length-drop 2 ws)) h v)
 
-  pub execute-fine : (ws : List (List ℕ)) (c : Command) → Known f ws c → Comes Executing (Fine (wordAt 1 ws)) (execute f now ss c)
+  pub execute-fine : (ws : List (List ℕ)) → length ws ≤ wordLimit → (c : Command) → Known f ws c → Comes Executing (Fine (wordAt 1 ws)) (execute f now ss c)
   unfolding execute
-  execute-fine ws c h =
+  execute-fine ws few c h =
       subst (λ (k : List ℕ). Comes Executing (Fine k) (execute f now ss c)) (h .key)
-      (fine-act (c .key) (h .key-from) (h .key-to) ws (c .action) (h .action))
+      (fine-act (c .key) (h .key-from) (h .key-to) ws (c .action) few (h .action))

@@ -10,7 +10,7 @@ use Rattle.model.specs.Table.{Form, Slot, recordSize, valueAt}
 use Rattle.model.specs.Search.{Placed, Lookup, liveAt, expiredAt, absent, lookup}
 use Rattle.model.specs.Resp.{arrayMark, bulkMark, line, bulksBytes}
 use Rattle.model.specs.Gate.{gate}
-use Rattle.model.specs.Command.{Action, exset, exget, exsetver, exincrby, excas, excad, exjoin, exgae, del, Command}
+use Rattle.model.specs.Command.{Action, exset, exget, exsetver, exincrby, excas, excad, exjoin, exgae, del, bitfield, Command}
 use Rattle.model.specs.Parse.{wordAt, parse}
 use Rattle.model.specs.Execute.{executeOn}
 
@@ -66,6 +66,7 @@ shownAfter f ws p (excad n) = nothing
 shownAfter f ws p (exjoin j) = nothing
 shownAfter f ws p (exgae e) = nothing
 shownAfter f ws p del = nothing
+shownAfter f ws p (bitfield ss) = nothing
 
 -- a key that is not live before the command shows none
 abbrev pub shownOn : Form → List (List ℕ) → Lookup → Action → Shown

@@ -13,8 +13,9 @@ use Rattle.model.specs.Number.{intText, readSigned, isSigned, versionLim
 use Rattle.model.specs.Table.{Form, Record, Slot, empty, used}
 use Rattle.model.specs.Search.{Placed, Lookup, liveAt, expiredAt, absent, lookup, liveRecord, slotFor}
 use Rattle.model.specs.Resp.{Scalar, simple, integer, bulk, nil, Reply, one, array}
+use Rattle.model.specs.Bitfield.{allEndWithin, Ran, runSubs, fieldsReply}
 use Rattle.model.specs.Command.{Presence, always, ifAbsent, ifLive, Change, raise, set, Expire, clear, keep, at, End, back, front}
-use Rattle.model.specs.Command.{Terms, Increment, Action, exset, exget, exsetver, exincrby, excas, excad, exjoin, exgae, del, Command}
+use Rattle.model.specs.Command.{Terms, Increment, Action, exset, exget, exsetver, exincrby, excas, excad, exjoin, exgae, del, bitfield, Command}
 
 -- a reply, or a reply and the new contents of one slot
 pub data Effect : Type 0 where
@@ -152,9 +153,14 @@ counted i s = do
   z ← total i s
   ok (record { text = intText z; reply = countReply (i .withVersion) z })
 
+-- the value that BITFIELD works on: without a live record it is empty
+abbrev pub valueOrEmpty : Option Record → List ℕ
+valueOrEmpty none = []
+valueOrEmpty (some r) = r .value
+
 -- ---- the path of every command that writes a value
 
--- EXCAS on the record's own version
+-- EXCAS on the record's own version, and BITFIELD
 abbrev pub swapping : Expire → Terms
 swapping e = record { presence = always; change = raise none; expire = e }
 
@@ -207,6 +213,10 @@ module _ (f : Form) (k : List ℕ) (l : Lookup) (slot : Option ℕ) where
   abbrev pub writeIf : Terms → (flags : Option ℕ) → (make : Option (List ℕ) → Checked New) → Checked Effect
   writeIf t g make = admit t (liveRecord l) (write t g make)
 
+  -- what BITFIELD's subcommands came to: a new value, where one of them wrote, and their answers
+  abbrev pub storeRan : Ran → Checked Effect
+  storeRan r = cond (r .wrote) (write (swapping keep) none λ v. ok (record { text = r .value; reply = λ n. fieldsReply (r .results) })) (ok (answer (fieldsReply (r .results))))
+
   -- what an action does
   abbrev pub act : Action → Checked Effect
   act (exset s) = writeIf (s .terms) (some (s .flags)) λ v. ok (record { text = s .value; reply = setReply (s .withVersion) })
@@ -222,6 +232,9 @@ module _ (f : Form) (k : List ℕ) (l : Lookup) (slot : Option ℕ) where
   act (exgae e) =
       onLive l (one nil) λ p. ok (store (p .at) (used (setExpiry (expiryAfter e (some (p .rec))) (p .rec))) (getReply true (p .rec)))
   act del = onLive l (one (number 0)) λ p. ok (store (p .at) empty (one (number 1)))
+  act (bitfield ss) = do
+    check 16 (allEndWithin (f .valueLimit) ss)
+    storeRan (runSubs ss (valueOrEmpty (liveRecord l)))
 
 -- ---- a command
 

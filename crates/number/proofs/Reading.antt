@@ -7,7 +7,8 @@ use mathlib.Core.Option.{Option, none, some, Option·map}
 use Prim.Native.Nat.{ℕ, zero, suc, _+_, _-_, _*_, _^_, _≤_, _<_}
 use native.Mathlib.Omega.{arith}
 use lib.Dec.{ltb}
-use lib.ListN.{length, getD, drop}
+use lib.ListN.{length, getD, drop, take, length-drop}
+use lib.Seq.{take-all}
 use lib.IntN.{ℤ, pos, negsuc, negℤ}
 use borrow.Author.Tests.{le-leb, lt-leb, le-ltb, lt-ltb, ne-eqb, leb-true, leb-false, ltb-true, ltb-false}
 use Rattle.model.specs.Optional.{_>>=_, only}
@@ -146,6 +147,10 @@ unfolding readSigned
 text-plain [] n e z = absurd (n refl)
 text-plain (c ∷ []) n e z = simp (ne-eqb c 45 e, ne-eqb c 48 (z refl))
 text-plain (c ∷ d ∷ s) n e z = simp (ne-eqb c 45 e)
+
+-- the part after the first byte
+pub rest-is : (s : List ℕ) → take (length s - 1) (drop 1 s) ≡ drop 1 s
+rest-is s = take-all (length s - 1) (drop 1 s) (simp length-drop (omega arith))
 
 -- ---- natural numbers below a limit
 

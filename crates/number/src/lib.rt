@@ -104,7 +104,7 @@ pub fn read_signed(s: &[u8]) -> Signed
 }
 
 // The number without its sign.
-fn magnitude(z: i64) -> u64
+pub fn magnitude(z: i64) -> u64
     ensures { λ r. ⌜ r ≡ natAbs z ⌝ }
 {
     if z < 0 {
@@ -116,7 +116,7 @@ fn magnitude(z: i64) -> u64
 }
 
 // The natural number below `limit` that a text says.
-fn read_below(s: &[u8], limit: u64) -> Natural
+pub fn read_below(s: &[u8], limit: u64) -> Natural
     requires { ⌜ limit ≤ signedLimit ⌝ }
     ensures { λ r. ⌜ r ≡ naturalFrom (readBelow limit (now (s .entry))) ⌝ }
 {

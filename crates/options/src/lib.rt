@@ -141,7 +141,7 @@ fn take_option(s: &[u8], places: &[u16; 32], count: usize, rule: Rule, i: usize)
     requires { ⌜ Splits (now s) (now places) × (count ≡ length (wordsOf (now s))) × (i < count) ⌝ }
     ensures { λ r. ⌜ Takes (modelRule rule) (wordsOf (now (s .entry))) i r ⌝ }
 {
-    let Spelled::Known(opt) = command::option_of(resp::word_at(s, places, i)) else {
+    let Spelled::Known(opt) = keyword::option_of(resp::word_at(s, places, i)) else {
         return Taken::Wrong;
     };
     let number = i + 1;

@@ -6,6 +6,7 @@ use mathlib.Core.Bool.{Bool, true, false, cond, not, _||_}
 use mathlib.Core.List.{List, []}
 use mathlib.Core.Option.{Option, none, some}
 use lib.ListN.{length, drop, drop-of-length-le}
+use borrow.Author.Tests.{eq-eqb, ne-eqb}
 use Rattle.model.specs.Optional.{only}
 use Rattle.model.specs.Checked.{Checked, refuse, ok, check, given, _>>=_, _>>_}
 use Rattle.model.specs.Table.{Form}
@@ -13,11 +14,12 @@ use Rattle.model.specs.Command as model
 use Rattle.model.specs.Command.{Command, under, Name, ruleOf, timeWord}
 use Rattle.model.specs.Options.{Given, has, readOptions, enough, optionsIn, Said, saidIn}
 use Rattle.model.specs.Parse as Parse
-use Rattle.model.specs.Parse.{wordAt, countOk, sizesOk, readFixed, actionOf, parseNumbers, parseOptions, parseNamed}
+use Rattle.model.specs.Parse.{wordAt, countOk, sizesOk, fixedOk, readFixed, actionOf, parseNumbers, parseOptions}
 use Rattle.command.specs.Rules.{modelRule, modelNumber}
 use Rattle.command.specs.declared.Rule.{Rule}
 use Rattle.options.specs.Options.{Collects, Tied}
 use Rattle.options.specs.declared.Collected.{Collected}
+use Rattle.values.specs.Values.{checkedBy}
 use Rattle.arguments.specs.Fixed.{checkedFixed}
 use Rattle.parse.specs.Reading.{FixedIs}
 use Rattle.arguments.specs.declared.ReadFixed.{ReadFixed}
@@ -90,11 +92,19 @@ module _ (time : ℕ) (ws : List (List ℕ)) (n : Name) where
         go : (o : Option (List Given)) → Collects ws o r → x ≡ after o
         go none h = absurd (omega (arith, h, e))
         go (some gs) h = f gs (h .1)
+        -- ---- tests 6 and 7
 
-  -- ---- tests 6 and 7
+-- ---- tests 6 and 7
 
-  module _ (f : Form) where
-    pub named-in-turn : {a b : Bool} → a ≡ countOk (ruleOf n) (length ws) → b ≡ sizesOk f (ruleOf n) (length (wordAt 1 ws)) (length (wordAt 2 ws))
-        → (check 6 a >> (check 7 b >> parseOptions time ws n)) ≡ parseNamed f time ws n
-    unfolding parseNamed
-    named-in-turn p q = λ i. check 6 (p i) >> (check 7 (q i) >> parseOptions time ws n)
+-- what the two tests come to, by the rule r, is what they come to by an equal one
+pub fixed-in-turn : (f : Form) (ws : List (List ℕ)) (r : model.Rule) {a b : Bool} → a ≡ countOk r (length ws) → b ≡ sizesOk f r (length (wordAt 1 ws)) (length (wordAt 2 ws))
+    → (check 6 a >> check 7 b) ≡ fixedOk f r ws
+fixed-in-turn f ws r p q = λ i. check 6 (p i) >> check 7 (q i)
+
+-- a refusal by them is the command's, and where there is none what comes after counts
+module _ {n : ℕ} {x : Checked (Unit {0})} (e : checkedBy n tt ≡ x) (y : Checked Command) where
+  pub refused-first : (n ≡ 0 → ⊥) → refuse n ≡ (x >> y)
+  refused-first z = ap (λ (b : Bool). cond b (ok tt) (refuse n) >> y) (sym (ne-eqb n 0 z)) ∙ ap (λ (x : Checked (Unit {0})). x >> y) e
+
+  pub passed-first : n ≡ 0 → y ≡ (x >> y)
+  passed-first z = ap (λ (b : Bool). cond b (ok tt) (refuse n) >> y) (sym (eq-eqb n 0 z)) ∙ ap (λ (x : Checked (Unit {0})). x >> y) e

@@ -1,5 +1,5 @@
 // The library's functions for C: a slice crosses as a pointer and a length.
-use store::Shown;
+use current::Shown;
 ghost use mathlib.Core.Path.{_≡_};
 ghost use Rattle.model.specs.Table.{form128};
 ghost use Rattle.model.specs.Build.{beginIn, addWordIn};
@@ -36,7 +36,7 @@ pub extern "C" fn pietrunel_current_value(
 ) -> bool
     ensures { λ r. ⌜ Located (currentValue form128 (now (table .entry)) time (now (command .entry))) r (now (inside .exit)) (now (start .exit)) (now (len .exit)) ⌝ }
 {
-    match store::locate(table, time, command) {
+    match current::locate(table, time, command) {
         Shown::Nothing => {
             *inside = false;
             *start = 0;

@@ -10,6 +10,7 @@ pub use piece::put_nil;
 pub use piece::put_simple;
 pub use refusal::error;
 pub use whole::count;
+pub use whole::elements;
 pub use whole::get;
 pub use whole::minus_one;
 pub use whole::nil;

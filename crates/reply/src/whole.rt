@@ -5,12 +5,13 @@ use piece::put_bulk;
 use piece::put_integer;
 use piece::put_nil;
 use piece::put_simple;
-ghost use mathlib.Core.List.{_++_};
+ghost use mathlib.Core.Path.{_≡_};
+ghost use mathlib.Core.List.{List, _++_};
 ghost use Prim.Native.Nat.{_+_, _≤_, _<_};
 ghost use lib.ListN.{length};
 ghost use Rattle.model.specs.Bytes.{text};
 ghost use Rattle.model.specs.Number.{versionLimit};
-ghost use Rattle.model.specs.Resp.{scalarBytes, simple, bulk, nil, one};
+ghost use Rattle.model.specs.Resp.{Scalar, scalarBytes, scalarsBytes, simple, bulk, nil, one, array};
 ghost use Rattle.model.specs.Execute.{number, minusOne, setReply, getReply, countReply, swapReply, staleReply};
 ghost use Rattle.slice.specs.Wrote.{Wrote};
 ghost use Rattle.reply.specs.Replied.{FitsIn, Replied, shown};
@@ -131,4 +132,17 @@ pub fn stale(reply: &mut [u8], value: &[u8], version: u64) -> Answer
     let value_at = put_stale(reply, stale_at);
     let len = put_value(reply, value_at, value, version);
     Answer { number: 0, len }
+}
+
+// Answers an array of a few elements whose bytes are given.
+pub fn elements(reply: &mut [u8], count: usize, text: &[u8]) -> Answer
+    requires { ⌜ (count < 10) × (4 + length (now text) ≤ length (now reply)) ⌝ }
+    ensures { λ r. ⌜ ((xs : List Scalar) → length xs ≡ count → now (text .entry) ≡ scalarsBytes xs → Replied 0 (array xs) (now (reply .entry)) (now (reply .exit)) r) ⌝ }
+{
+    let at = put_array(reply, 0, count);
+    slice::copy(reply, at, text);
+    Answer {
+        number: 0,
+        len: at + text.len(),
+    }
 }

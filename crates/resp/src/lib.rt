@@ -44,7 +44,7 @@ pub struct Reader<'a> {
 }
 
 // The digit at place `at`, and 10 where there is none.
-fn digit_at(s: &[u8], at: usize) -> usize
+pub fn digit_at(s: &[u8], at: usize) -> usize
     ensures { λ r. ⌜ r ≡ digitAt (now (s .entry)) at ⌝ }
 {
     if s.len() <= at {

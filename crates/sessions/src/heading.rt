@@ -44,9 +44,8 @@ pub fn follow(table: &mut [u8; 256], setting: Setting, line: &[u8]) -> Setting {
     if begins(line, b"-- time ") {
         return timed(setting, line);
     }
-    let rows = begins(line, b"-- Document ");
-    let sessions = begins(line, b"-- Documents");
-    if rows | sessions | begins(line, b"-- FLUSHALL") {
+    let rows = begins(line, b"-- Document 01:") | begins(line, b"-- Document 02:");
+    if begins(line, b"-- Document") | begins(line, b"-- FLUSHALL") {
         *table = [0u8; 256];
         return Setting { rows, time: 1000 };
     }

@@ -1,5 +1,4 @@
--- Laws of the gate's answers, of a parsed command and its execution, and of what it shows: which part, by the action, and that it lies inside.
-pub mod Tests
+-- Laws of a call by the gate's answer, of a task and its execution, and of BITFIELD's subcommands.
+pub mod Gate
 pub mod Acting
-pub mod Showing
-pub mod Inside
+pub mod Subcommands

@@ -1,4 +1,2 @@
 pub mod Called
-pub mod Shows
-pub mod Gated
-pub mod Current
+pub mod Runs

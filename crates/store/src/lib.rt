@@ -1,9 +1,6 @@
-// The store: one call on a borrowed table, from bytes to bytes, and the value that a command shows.
-mod current;
-mod entry;
+// The store: one call on a borrowed table, from bytes to bytes.
+mod task;
 
-pub use current::Shown;
-pub use current::locate;
 use entry::Prepared;
 use entry::Query;
 use live::Target;
@@ -11,20 +8,15 @@ use record::Form;
 use reply::Answer;
 ghost use Rattle.model.specs.Table.{form128};
 ghost use Rattle.model.specs.Call.{call};
-ghost use Rattle.model.specs.CurrentValue.{currentValue};
 ghost use Rattle.integrity.specs.Check.{Fresh};
 ghost use Rattle.store.specs.Called.{Called};
-ghost use Rattle.store.specs.Shows.{Shows};
-
-// The longest table for which the smaller arrays of the index do: 16 records.
-const SMALL: usize = 2048;
 
 // Applies one command to a table: document 01's number, the reply's length, the reply and the changed table. The index is as large as the table
 // asks, since it costs time to make.
 pub fn call(table: &mut [u8], time: u64, command: &[u8], reply: &mut [u8]) -> Answer
     ensures { λ r. ⌜ Called (call form128 (now (table .entry)) time (now (command .entry)) (now (reply .entry))) r (now (table .exit)) (now (reply .exit)) ⌝ }
 {
-    if table.len() <= SMALL {
+    if table.len() <= entry::SMALL {
         let mut heads = [0; 128];
         let mut next = [0; 16];
         return call_with(table, time, command, reply, &mut heads, &mut next);
@@ -53,38 +45,11 @@ fn call_with(
         Prepared::Refused(number) => Answer { number, len: 0 },
         Prepared::Wrong(number) => reply::error(reply, number),
         Prepared::Ready(ready) => {
-            let action = ready.action;
+            let task = ready.task;
             let found = ready.found;
             let form = Form::Of128;
             let target = Target { form, time, found };
-            let key = resp::word_at(command, &places, 1);
-            let value = resp::word_or_empty(command, &places, ready.count, 2);
-            execute::execute(table, target, key, value, action, reply)
-        }
-    }
-}
-
-// The value at the key after an EXGET or EXCAS, as a part of the command where the EXCAS would succeed, else of the table. Where none is shown, the table's first zero bytes.
-pub fn current_value<'a>(
-    table: &'a [u8],
-    time: u64,
-    command: &'a [u8],
-    shown: &mut bool,
-) -> &'a [u8]
-    ensures { λ r. ⌜ Shows (table .entry) (command .entry) (currentValue form128 (now (table .entry)) time (now (command .entry))) r (now (shown .exit)) ⌝ }
-{
-    match locate(table, time, command) {
-        Shown::InCommand { start, len } => {
-            *shown = true;
-            &command[start..start + len]
-        }
-        Shown::InTable { start, len } => {
-            *shown = true;
-            &table[start..start + len]
-        }
-        Shown::Nothing => {
-            *shown = false;
-            &table[..0]
+            task::carry_out(table, target, task, command, &places, ready.count, reply)
         }
     }
 }

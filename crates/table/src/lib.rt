@@ -1,16 +1,11 @@
-// The slots of a table: the part that is a slot, the index by which a key is found, the search for a free slot, and the writes to a slot.
+// The slots of a table: the part that is a slot, the search for a free slot, and the writes to a slot.
 mod change;
-mod hash;
-mod index;
 mod lookup;
 
 pub use change::clear;
 pub use change::join;
 pub use change::set_attributes;
 pub use change::store;
-pub use index::enter;
-pub use index::find;
-pub use index::search_chain;
 pub use lookup::free_slot;
 use record::Form;
 ghost use Prim.Native.Nat.{_+_, _*_, _/_, _≤_};

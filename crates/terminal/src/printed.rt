@@ -180,10 +180,14 @@ fn add_array(page: &mut [u8], reply: &[u8]) -> Step {
         return Step { next: 0, at: 0 };
     }
     let count = digit(reply[1]);
-    let mut step = Step {
-        next: after_line(reply, 2),
-        at: 0,
-    };
+    let next = after_line(reply, 2);
+    if count == 0 {
+        return Step {
+            next,
+            at: add(page, 0, b"(empty array)\n"),
+        };
+    }
+    let mut step = Step { next, at: 0 };
     let mut i = 0;
     while i < count {
         if step.next == 0 {

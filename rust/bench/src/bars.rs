@@ -1,6 +1,6 @@
 //! What the library may cost beside the rival, and how figures stand to that.
 
-use crate::rows::{COLLIDING, NAMES};
+use crate::rows::{COLLIDING, FIELDS, NAMES, SIZES};
 
 /// The most that the geometric mean of all ratios of library to rival may be.
 const MEAN_BAR: f64 = 1.25;
@@ -15,6 +15,10 @@ const SLOPE_BAR: f64 = 1.15;
 const CALL_BARS: [(&str, f64); 3] =
     [("EXGET hit", 600.0), ("EXSET live", 750.0), ("EXCAS OK", 950.0)];
 
+/// The most that a BITFIELD of one field may cost, as a multiple of what the
+/// library's EXINCRBY costs in the same table.
+const FIELD_BAR: f64 = 1.5;
+
 /// The most nanoseconds of a call on colliding keys.
 const COLLIDING_BAR: f64 = 1_000_000.0;
 
@@ -28,19 +32,19 @@ pub struct Line {
 }
 
 impl Line {
-    pub const HEAD: &str = "row          records   library     rival  ratio";
+    pub const HEAD: &str = "row             records   library     rival  ratio";
 
     /// The line under the head; a ratio above its bar is marked.
     pub fn text(&self, digits: usize) -> String {
         let Line { name, records, library, rival, ratio } = self;
         let mark = if self.counts() && *ratio > ROW_BAR { " *" } else { "" };
-        format!("{name:12} {records:7} {library:9.digits$} {rival:9.digits$} {ratio:6.2}{mark}")
+        format!("{name:15} {records:7} {library:9.digits$} {rival:9.digits$} {ratio:6.2}{mark}")
     }
 
-    /// Whether the ratio counts for the bars. Keys that share a bucket of the
-    /// library's index have a bar of their own.
+    /// Whether the ratio counts for the mean and the worst. Keys that share a
+    /// bucket of the library's index have a bar of their own, and so has BITFIELD.
     fn counts(&self) -> bool {
-        self.name != COLLIDING
+        self.name != COLLIDING && !FIELDS.contains(&self.name.as_str())
     }
 }
 
@@ -60,7 +64,7 @@ impl Slope {
     }
 }
 
-/// The slope of each row, from 16 records to 256.
+/// The slope of each row that counts, from 16 records to 256.
 pub fn slopes(lines: &[Line]) -> Vec<Slope> {
     let slope = |name| {
         let (few, many) = (at(lines, name, 16), at(lines, name, 256));
@@ -97,6 +101,20 @@ pub fn judge_calls(lines: &[Line]) -> bool {
     met
 }
 
+/// Likewise BITFIELD of one field beside EXINCRBY, at the number of records
+/// where it compares worst.
+pub fn judge_fields(lines: &[Line]) -> bool {
+    let mut met = true;
+    for name in FIELDS {
+        let cost = |name: &str, records| at(lines, name, records).library;
+        let multiple = |records| cost(name, records) / cost("EXINCRBY", records);
+        let worst = SIZES.into_iter().max_by(|a, b| multiple(*a).total_cmp(&multiple(*b))).unwrap();
+        let what = format!("{name} by EXINCRBY at {worst}");
+        met &= judge(&what, multiple(worst), 3, FIELD_BAR);
+    }
+    met
+}
+
 /// Likewise the nanoseconds of a call on colliding keys.
 pub fn judge_colliding(lines: &[Line]) -> bool {
     judge("colliding keys", at(lines, COLLIDING, 256).library, 0, COLLIDING_BAR)
@@ -109,6 +127,6 @@ fn at<'a>(lines: &'a [Line], name: &str, records: usize) -> &'a Line {
 /// Prints a figure beside its bar; whether it is met.
 fn judge(what: &str, figure: f64, digits: usize, bar: f64) -> bool {
     let verdict = if figure <= bar { "met" } else { "missed" };
-    println!("{what:32} {figure:8.digits$}, bar {bar:8.digits$}: {verdict}");
+    println!("{what:34} {figure:8.digits$}, bar {bar:8.digits$}: {verdict}");
     figure <= bar
 }

@@ -16,6 +16,10 @@ pub const NAMES: [&str; 13] = [
     "EXAPPEND", "options", "malformed", "damaged", "equal keys", "24-byte keys",
 ];
 
+/// Rows on the table of EXINCRBY that stand apart, with a bar of their own:
+/// BITFIELD of one field. They count neither for the mean nor for the worst.
+pub const FIELDS: [&str; 2] = ["BITFIELD GET", "BITFIELD INCRBY"];
+
 /// A row that stands apart, with a bar of its own: EXGET in a full table of keys
 /// that share a bucket of the library's index.
 pub const COLLIDING: &str = "colliding";
@@ -33,13 +37,13 @@ pub struct Row {
     pub number: u32,
 }
 
-/// All rows with all sizes, then the one that stands apart. Two equal keys need
-/// two records.
+/// All rows with all sizes, then those that stand apart. Two equal keys need two
+/// records.
 pub fn all(key: Key) -> Vec<Row> {
     let sizes = |name| SIZES.into_iter().filter(move |size| name != "equal keys" || *size > 1);
     let key_of = |name| if name == "24-byte keys" { long } else { key };
     let rows = |name| sizes(name).map(move |size| row(name, size, &key_of(name)));
-    NAMES.into_iter().flat_map(rows).chain([colliding()]).collect()
+    NAMES.into_iter().chain(FIELDS).flat_map(rows).chain([colliding()]).collect()
 }
 
 fn colliding() -> Row {
@@ -69,7 +73,7 @@ fn row(name: &'static str, records: usize, key: &dyn Fn(usize) -> String) -> Row
 
 fn value(name: &str, slot: usize) -> String {
     match name {
-        "EXINCRBY" => (1200 + slot).to_string(),
+        "EXINCRBY" | "BITFIELD GET" | "BITFIELD INCRBY" => (1200 + slot).to_string(),
         _ => format!("v=2.9{slot:03};t=21;s=ok"),
     }
 }
@@ -108,6 +112,8 @@ fn command(
         "options" => encode(&["EXSET", there, text, "EX", "3600", "FLAGS", "7", "XX"]),
         "EXAPPEND" => encode(&["EXAPPEND", there, ";x=1"]),
         "malformed" => [encode(&["EXGET", there]), b"\n".to_vec()].concat(),
+        "BITFIELD GET" => encode(&["BITFIELD", there, "GET", "u8", "0"]),
+        "BITFIELD INCRBY" => encode(&["BITFIELD", there, "INCRBY", "u8", "0", "1"]),
         _ => encode(&["EXGET", there]),
     };
     (bytes, slot)

@@ -2,7 +2,7 @@
 //! calls, and the instructions of the library and of the rival. Prints them per
 //! call and per further record, and fails if a bar is missed.
 
-use bench::bars::{judge_calls, judge_ratios, judge_slopes, slopes, Line, Slope};
+use bench::bars::{judge_calls, judge_fields, judge_ratios, judge_slopes, slopes, Line, Slope};
 use std::process::ExitCode;
 
 fn main() -> ExitCode {
@@ -17,8 +17,9 @@ fn main() -> ExitCode {
         println!("{}", slope.text());
     }
     println!();
-    let verdicts = [judge_ratios(&lines), judge_slopes(&slopes), judge_calls(&lines)];
-    if verdicts == [true; 3] {
+    let verdicts =
+        [judge_ratios(&lines), judge_slopes(&slopes), judge_calls(&lines), judge_fields(&lines)];
+    if verdicts == [true; 4] {
         ExitCode::SUCCESS
     } else {
         ExitCode::FAILURE

@@ -22,7 +22,8 @@ fn main() {
 fn run(call: Call, row: &mut Row, whole: &[u8]) {
     let mut reply = [0; 128];
     for (command, slot) in &row.commands {
-        black_box(call(&mut row.table, TIME, command, &mut reply));
+        let number = call(&mut row.table, TIME, command, &mut reply);
+        assert_eq!(number, row.number, "{} with {} records", row.name, row.records);
         records_mut(&mut row.table)[*slot] = records(whole)[*slot];
     }
 }

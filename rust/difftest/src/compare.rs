@@ -11,16 +11,19 @@ pub struct Candidate {
     pub current_value: fn(&[u8], u64, &[u8]) -> Option<Shown>,
 }
 
+#[cfg(feature = "library")]
 pub const LIBRARY: Candidate =
     Candidate { name: "library", call: library, current_value: library_current_value };
 
 /// A call of the library.
+#[cfg(feature = "library")]
 pub fn library(table: &mut [u8], time: u64, command: &[u8], reply: &mut [u8]) -> Answer {
     let answer = pietrunel::call(table, time, command, reply);
     Answer { number: answer.number(), len: answer.reply().len() }
 }
 
 /// Where the library's current value stands.
+#[cfg(feature = "library")]
 fn library_current_value(table: &[u8], time: u64, command: &[u8]) -> Option<Shown> {
     let value = pietrunel::current_value(table, time, command)?;
     let start_in = |whole: &[u8]| {

@@ -1,10 +1,11 @@
 //! Random cases and histories, on which the library must agree with the
 //! reference; so must the rival of the benchmark.
 //!
-//! `case` makes one call's table, time, command and reply buffer. `compare`
-//! runs it on two stores. `history` makes whole lists of calls on one record
-//! and checks their answers against a serial execution. `pairs` makes the files
-//! of two tables.
+//! `case` makes one call's table, time, command and reply buffer, `bitfield_case`
+//! those of a BITFIELD. `compare` runs it on two stores; `expect` and `bitfield`
+//! hold the outcome to plain rules. `history` makes whole lists of calls on one
+//! record and checks their answers against a serial execution. `pairs` makes the
+//! files of two tables.
 
 #![forbid(unsafe_code)]
 
@@ -13,18 +14,22 @@ mod frames;
 mod tables;
 mod words;
 
+pub mod bitfield;
 pub mod collisions;
 pub mod compare;
 pub mod expect;
+pub mod fields;
 pub mod hex;
 pub mod history;
 pub mod layout;
 pub mod pairs;
+#[cfg(feature = "library")]
 pub mod printed;
 pub mod resp;
 pub mod rng;
 pub mod settings;
 
+pub use commands::bitfield_words;
 pub use reference::Answer;
 pub use rng::Rng;
 
@@ -42,17 +47,39 @@ pub struct Case {
     pub reply: Vec<u8>,
 }
 
-/// A case with a table of 1 to 256 records, mostly few.
+/// A case of any command, with a table of 1 to 256 records, mostly few.
 pub fn case(rng: &mut Rng) -> Case {
     let faults = Faults::random(rng);
+    let name = commands::pick_name(rng, &faults);
     let now = words::time(rng);
-    let mut table = tables::good(rng, layout::MAX_RECORDS, now);
-    let time = case_time(rng, &faults, now, &table);
-    let command = commands::command(rng, &faults, &table, time);
+    let table = tables::good(rng, layout::MAX_RECORDS, now);
+    case_on(rng, &faults, name, table, now)
+}
+
+/// A case of BITFIELD, with a table of at most 40 records, many with values that
+/// are no text.
+pub fn bitfield_case(rng: &mut Rng) -> Case {
+    let faults = Faults::of_words(rng);
+    let now = words::time(rng);
+    let mut table = tables::good(rng, 40, now);
+    tables::fill_with_bits(rng, &mut table);
+    case_on(rng, &faults, "BITFIELD", table, now)
+}
+
+/// A case of the command with this name, on a table that was made for a time.
+fn case_on(
+    rng: &mut Rng,
+    faults: &Faults,
+    name: &'static str,
+    mut table: Vec<u8>,
+    now: u64,
+) -> Case {
+    let time = case_time(rng, faults, now, &table);
+    let command = commands::command(rng, faults, name, &table, time);
     if faults.has(1) {
         tables::damage(rng, &mut table);
     }
-    let room = reply_room(rng, &faults);
+    let room = reply_room(rng, faults);
     Case { table, time, command, reply: rng.bytes(room) }
 }
 

@@ -103,6 +103,24 @@ fn past_expiry(rng: &mut Rng, now: u64) -> u64 {
     }
 }
 
+/// Gives many records a value of zeros, ones or random bits.
+pub fn fill_with_bits(rng: &mut Rng, table: &mut [u8]) {
+    for record in layout::records_mut(table).iter_mut().filter(|record| layout::in_use(record)) {
+        let len = match rng.below(4) {
+            0 => rng.below(3),
+            1 => rng.between(62, layout::MAX_VALUE),
+            _ => rng.between(0, layout::MAX_VALUE),
+        };
+        let value = match rng.below(5) {
+            0 => vec![0; len],
+            1 => vec![0xff; len],
+            2 | 3 => rng.bytes(len),
+            _ => continue,
+        };
+        layout::store(record, &value, layout::version(record));
+    }
+}
+
 /// Breaks a good table, in one of many ways. Some ways can leave it good: a
 /// random bit, for one.
 pub fn damage(rng: &mut Rng, table: &mut Vec<u8>) {

@@ -1,7 +1,7 @@
 //! Commands that the wrapper makes of words, by the library, on random words.
 
-use difftest::{case, resp, settings, Rng};
-use pietrunel::{Command, CommandTooLong, Refusal, Reply};
+use difftest::{case, printed, resp, settings, Rng};
+use pietrunel::{Command, CommandTooLong, Error, Refusal, Reply};
 
 fn command(words: &[Vec<u8>]) -> Command<'_> {
     words[1..].iter().fold(Command::new(&words[0]), |command, word| command.arg(word))
@@ -80,7 +80,8 @@ fn a_command_calls_the_library() {
         let result = command(&words).call(&mut table, case.time, &mut reply);
         let (mut same_table, mut same_reply) = (case.table.clone(), case.reply.clone());
         let answer = pietrunel::call(&mut same_table, case.time, &case.command, &mut same_reply);
-        assert_eq!(result, answer.result(), "{}", case.again());
+        let expected = answer.result().map(|_| printed::parse(&case.command, answer.reply()));
+        assert_eq!(result, expected, "{}", case.again());
         assert_eq!((table, reply), (same_table, same_reply), "{}", case.again());
     }
 }
@@ -111,4 +112,25 @@ fn a_value_is_read_and_written_back() {
     assert_eq!(swapped, Ok(Reply::Swapped { version: 2 }));
     let encoded = swap.encode().unwrap();
     assert_eq!(pietrunel::current_value(&table, 5, &encoded), Some(&[0, 255][..]));
+}
+
+/// Two numbers of a BITFIELD are no sum with its version, in whatever case its name is.
+#[test]
+fn a_bitfield_answers_with_fields() {
+    let (mut table, mut room) = ([0; 128], [0; 128]);
+    for name in ["BITFIELD", "bitfield", "BitField"] {
+        let command = Command::new(name).arg("k").arg("GET").arg("u8").arg("0");
+        let command = command.arg("GET").arg("i8").arg("#1");
+        let Ok(Reply::Fields(answers)) = command.call(&mut table, 5, &mut room) else {
+            panic!("{name}");
+        };
+        assert_eq!(*answers, [Some(0), Some(0)]);
+    }
+    let none = Command::new("BITFIELD").arg("k").call(&mut table, 5, &mut room);
+    assert!(matches!(none, Ok(Reply::Fields(answers)) if answers.is_empty()));
+    let wrong = Command::new("BITFIELD").arg("k").arg("NOPE").call(&mut table, 5, &mut room);
+    assert_eq!(wrong, Err(Refusal::Error(Error::Syntax)));
+    let count = Command::new("EXINCRBY").arg("k").number(3).arg("WITHVERSION");
+    let counted = count.call(&mut table, 5, &mut room);
+    assert_eq!(counted, Ok(Reply::Counted { sum: 3, version: 1 }));
 }

@@ -24,7 +24,8 @@ fn the_library_runs_transactions_as_if_one_at_a_time() {
     }
     println!("{total:?}");
     let counts = [
-        total.ok, total.stale, total.refused_writes, total.reads_only, total.others, total.refused,
+        total.ok, total.stale, total.refused_writes, total.reads_only, total.others,
+        total.bitfields, total.refused,
     ];
     assert!(counts.iter().all(|count| *count as u64 >= histories / 4), "{total:?}");
 }

@@ -14,7 +14,7 @@ fn every_reply_is_taken_apart() {
         if outcome.reply().is_empty() {
             continue;
         }
-        let reply = Reply::parse(outcome.reply());
+        let reply = printed::parse(&case.command, outcome.reply());
         assert!(!matches!(reply, Reply::Other(_)), "{}", case.again());
         assert_eq!(printed::bytes(&reply), outcome.reply(), "{}", case.again());
     }
@@ -31,6 +31,8 @@ fn damaged_replies_are_told_apart() {
         let reply = Reply::parse(&bytes);
         assert_eq!(printed::bytes(&reply), bytes, "{}", bytes.escape_ascii());
         others += u64::from(matches!(reply, Reply::Other(_)));
+        let fields = Reply::parse_bitfield(&bytes);
+        assert_eq!(printed::bytes(&fields), bytes, "{}", bytes.escape_ascii());
     }
     assert!(others > settings::calls() / 4, "{others} were damaged");
 }
@@ -47,6 +49,35 @@ fn damage(rng: &mut Rng, bytes: &mut Vec<u8>) {
             bytes.remove(at);
         }
     }
+}
+
+/// The replies of BITFIELD: as many numbers and nils as there can be, and no other.
+#[test]
+fn fields_are_taken_apart() {
+    for (bytes, answers) in [
+        ("*0\r\n", &[][..]),
+        ("*1\r\n$-1\r\n", &[None]),
+        ("*1\r\n:-1\r\n", &[Some(-1)]),
+        ("*2\r\n:3\r\n:4\r\n", &[Some(3), Some(4)]),
+        (
+            "*4\r\n:0\r\n$-1\r\n:-9223372036854775808\r\n:1\r\n",
+            &[Some(0), None, Some(i64::MIN), Some(1)],
+        ),
+    ] {
+        let Reply::Fields(fields) = Reply::parse_bitfield(bytes.as_bytes()) else {
+            panic!("{bytes:?}");
+        };
+        assert_eq!(*fields, *answers);
+    }
+    for bytes in [
+        "", "*", "*1\r\n", "*0\r\n:1\r\n", "*-1\r\n", ":1\r\n", "$-1\r\n", "+OK\r\n",
+        "*1\r\n+OK\r\n", "*1\r\n$1\r\n1\r\n", "*1\r\n*0\r\n",
+        "*5\r\n:1\r\n:1\r\n:1\r\n:1\r\n:1\r\n", "*2\r\n:1\r\n", "*1\r\n:01\r\n", "*01\r\n:1\r\n",
+    ] {
+        assert_eq!(Reply::parse_bitfield(bytes.as_bytes()), Reply::Other(bytes.as_bytes()));
+    }
+    let error = Reply::parse_bitfield(b"-ERR syntax error\r\n");
+    assert_eq!(error, Reply::Error(b"ERR syntax error"));
 }
 
 /// An answer as a result, and each error with the text of its reply.

@@ -42,10 +42,15 @@ impl<'r> Answer<'r> {
         }
     }
 
-    /// The reply taken apart, or why there is none.
+    /// The reply taken apart, or why there is none. An answer does not tell its command: that of a
+    /// BITFIELD is taken apart by [`Reply::parse_bitfield`].
     pub fn result(self) -> Result<Reply<'r>, Refusal> {
+        self.result_by(Reply::parse)
+    }
+
+    pub(crate) fn result_by(self, parse: fn(&'r [u8]) -> Reply<'r>) -> Result<Reply<'r>, Refusal> {
         match self {
-            Answer::Reply(reply) => Ok(Reply::parse(reply)),
+            Answer::Reply(reply) => Ok(parse(reply)),
             Answer::Error(error, _) => Err(Refusal::Error(error)),
             Answer::Rejected(rejection) => Err(Refusal::Rejected(rejection)),
         }

@@ -99,7 +99,12 @@ impl<'a> Command<'a> {
         time_ms: u64,
         reply: &'r mut [u8],
     ) -> Result<Reply<'r>, Refusal> {
-        call(table, time_ms, &self.encode()?, reply).result()
+        let parse = if self.is_bitfield() { Reply::parse_bitfield } else { Reply::parse };
+        call(table, time_ms, &self.encode()?, reply).result_by(parse)
+    }
+
+    fn is_bitfield(&self) -> bool {
+        matches!(self.words[0], Word::Bytes(name) if name.eq_ignore_ascii_case(b"BITFIELD"))
     }
 }
 

@@ -2,20 +2,22 @@
 
 use core::fmt::{self, Display, Formatter};
 
-/// Why a command is refused with an error reply: numbers 5 to 17, tested in this order.
+/// Why a command is refused with an error reply: numbers 5 to 17, tested in this order, but that
+/// BITFIELD tests 16 before 15.
 ///
 /// It prints as the text of the error reply after `-ERR `.
 #[derive(Clone, Copy, Debug, PartialEq, Eq)]
 pub enum Error {
     /// 5: its name is not known.
     UnknownCommand,
-    /// 6: it has too few words, or too many for one without options.
+    /// 6: it has too few words, or too many for EXSETVER, EXCAD or DEL.
     WordCount,
     /// 7: the key is not 1 to 24 bytes long, or the value over 64.
     TooLong,
-    /// 8: an option is wrong.
+    /// 8: an option is wrong; in BITFIELD a subcommand or mode is unknown, or a word is missing.
     Syntax,
-    /// 9: a number word is no number in its range.
+    /// 9: a number word is no number in its range; in BITFIELD also a type or an offset is wrong, or a
+    /// number for SET does not fit its type.
     NotANumber,
     /// 10: the number of a time word is below 1, or the expiry above 2^62.
     ExpireTime,
@@ -30,7 +32,8 @@ pub enum Error {
     SumOutOfRange,
     /// 15: the version is at its top and would rise.
     VersionAtTop,
-    /// 16: the joined value is over 64 bytes.
+    /// 16: the joined value is over 64 bytes; or a field of SET or INCRBY goes past bit 511, even if
+    /// nothing would be written.
     JoinedTooLong,
     /// 17: no record is free.
     TableFull,

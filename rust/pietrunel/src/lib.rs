@@ -30,6 +30,8 @@
 //! # Ok::<(), Refusal>(())
 //! ```
 //!
+//! BITFIELD, which reads and writes numbers in the bits of a value, answers with [`Fields`].
+//!
 //! [`call`] takes and gives the bytes of RESP2 as they are:
 //!
 //! ```
@@ -53,6 +55,7 @@ mod decimal;
 mod error;
 #[allow(unsafe_code)]
 mod ffi;
+mod fields;
 mod refusal;
 mod rejection;
 mod reply;
@@ -61,6 +64,7 @@ mod resp;
 pub use answer::Answer;
 pub use command::{Command, CommandTooLong, Encoded};
 pub use error::Error;
+pub use fields::Fields;
 pub use refusal::Refusal;
 pub use rejection::Rejection;
 pub use reply::Reply;
@@ -82,6 +86,9 @@ pub const MAX_COMMAND: usize = 512;
 
 /// The most words of a command.
 pub const MAX_WORDS: usize = 16;
+
+/// The most answers of a BITFIELD: each takes at least three of the words after name and key.
+pub const MAX_FIELDS: usize = (MAX_WORDS - 2) / 3;
 
 /// The shortest reply buffer that is taken. Every reply fits in it.
 pub const REPLY_ROOM: usize = 128;

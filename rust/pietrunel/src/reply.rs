@@ -1,6 +1,7 @@
 //! A reply taken apart.
 
 use crate::resp::{Item, Reader};
+use crate::Fields;
 
 /// A reply of the store. Values are parts of the reply buffer.
 ///
@@ -32,6 +33,8 @@ pub enum Reply<'r> {
     Swapped { version: u64 },
     /// EXCAS stored nothing, since the record has another version; the record.
     Stale { value: &'r [u8], version: u64 },
+    /// BITFIELD: the answers of its subcommands.
+    Fields(Fields),
     /// An error reply: its text after the minus sign.
     Error(&'r [u8]),
     /// Bytes in none of these forms, perhaps of a later library.
@@ -42,10 +45,37 @@ pub enum Reply<'r> {
 const STALE: &[u8] = b"ERR update version is stale";
 
 impl<'r> Reply<'r> {
-    /// Takes the bytes of one whole reply apart.
+    /// Takes the bytes of one whole reply apart, of any command but BITFIELD: two numbers are
+    /// those of EXINCRBY WITHVERSION here.
     pub fn parse(bytes: &'r [u8]) -> Reply<'r> {
         read(bytes).unwrap_or(Reply::Other(bytes))
     }
+
+    /// Takes the bytes of one whole reply of a BITFIELD apart. [`Command::call`] does so by itself.
+    ///
+    /// ```
+    /// use pietrunel::Reply;
+    ///
+    /// let bytes = b"*2\r\n:3\r\n:4\r\n";
+    /// assert_eq!(Reply::parse(bytes), Reply::Counted { sum: 3, version: 4 });
+    /// let Reply::Fields(answers) = Reply::parse_bitfield(bytes) else { panic!() };
+    /// assert_eq!(*answers, [Some(3), Some(4)]);
+    /// ```
+    ///
+    /// [`Command::call`]: crate::Command::call
+    pub fn parse_bitfield(bytes: &'r [u8]) -> Reply<'r> {
+        read_bitfield(bytes).unwrap_or(Reply::Other(bytes))
+    }
+}
+
+fn read_bitfield(bytes: &[u8]) -> Option<Reply<'_>> {
+    let mut items = Reader { rest: bytes };
+    let reply = match items.item()? {
+        Item::Array(count) => Reply::Fields(Fields::read(&mut items, count)?),
+        Item::Error(text) => Reply::Error(text),
+        _ => return None,
+    };
+    items.rest.is_empty().then_some(reply)
 }
 
 fn read(bytes: &[u8]) -> Option<Reply<'_>> {

@@ -1,6 +1,8 @@
 //! A command by value; the words that name commands and options; the rule of
 //! each command.
 
+use crate::subcommands::Subcommand;
+
 /// NX: only if the key is absent; XX: only if it is live.
 #[derive(Clone, Copy, Debug, PartialEq, Eq)]
 pub enum Presence {
@@ -88,6 +90,7 @@ pub enum Action {
     Exjoin(Join),
     Exgae { expire: Expire },
     Del,
+    Bitfield(Vec<Subcommand>),
 }
 
 #[derive(Debug)]
@@ -199,9 +202,10 @@ pub enum Name {
     Exprepend,
     Exgae,
     Del,
+    Bitfield,
 }
 
-pub const NAMES: [(&str, Name); 10] = [
+pub const NAMES: [(&str, Name); 11] = [
     ("EXSET", Name::Exset),
     ("EXGET", Name::Exget),
     ("EXSETVER", Name::Exsetver),
@@ -212,6 +216,7 @@ pub const NAMES: [(&str, Name); 10] = [
     ("EXPREPEND", Name::Exprepend),
     ("EXGAE", Name::Exgae),
     ("DEL", Name::Del),
+    ("BITFIELD", Name::Bitfield),
 ];
 
 impl Name {
@@ -219,7 +224,7 @@ impl Name {
     pub fn fixed(self) -> usize {
         use Name::*;
         match self {
-            Exget | Exgae | Del => 2,
+            Exget | Exgae | Del | Bitfield => 2,
             Exset | Exsetver | Exincrby | Excad | Exappend | Exprepend => 3,
             Excas => 4,
         }
@@ -245,7 +250,7 @@ impl Name {
             Name::Excas => &[TimeWord, KeepTtl],
             Name::Exgae => &[TimeWord],
             Name::Exget => &[WithFlags],
-            Name::Exsetver | Name::Excad | Name::Del => &[],
+            Name::Exsetver | Name::Excad | Name::Del | Name::Bitfield => &[],
         }
     }
 
@@ -272,7 +277,7 @@ mod tests {
             assert_eq!(look(format!("{text} ").as_bytes(), &NAMES), None);
             assert_eq!(look(&text.as_bytes()[1..], &NAMES), None);
         }
-        for text in ["", "GET", "SET", "CAS", "EXINCRBYFLOAT", "BITFIELD", "EXSET\u{131}"] {
+        for text in ["", "GET", "SET", "CAS", "EXINCRBYFLOAT", "BITFIELD_RO", "EXSET\u{131}"] {
             assert_eq!(look(text.as_bytes(), &NAMES), None);
         }
     }

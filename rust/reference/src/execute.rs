@@ -8,6 +8,7 @@ use crate::command::{
 use crate::number::read_signed;
 use crate::resp::Reply;
 use crate::search::{lookup, slot_for, Lookup};
+use crate::subcommands::{run, Subcommand};
 use crate::table::{Record, Slot, HIGHEST_VERSION, VALUE_LIMIT};
 
 /// A reply, or the new contents of a slot and a reply.
@@ -42,6 +43,7 @@ impl Place<'_> {
             Action::Excad { version } => Ok(self.excad(*version)),
             Action::Exgae { expire } => Ok(self.exgae(*expire)),
             Action::Del => Ok(self.del()),
+            Action::Bitfield(subcommands) => self.bitfield(subcommands),
         }
     }
 
@@ -69,16 +71,15 @@ impl Place<'_> {
         Ok(Effect::Store(slot, Some(record), reply))
     }
 
-    /// EXAPPEND and EXPREPEND. An absent key has no text to join to.
+    /// EXAPPEND and EXPREPEND.
     fn exjoin(&self, join: &Join) -> Checked<Effect> {
         if !self.allowed(join.terms.presence) {
             return Ok(Effect::Answer(Reply::Nil));
         }
         check(12, self.agrees(join.terms.change))?;
-        let stored = self.found.live_record().map_or(&b""[..], |record| &record.value);
         let value = match join.end {
-            End::Back => [stored, &join.value].concat(),
-            End::Front => [&join.value, stored].concat(),
+            End::Back => [self.value(), &join.value].concat(),
+            End::Front => [&join.value, self.value()].concat(),
         };
         let (slot, record) = self.put(&join.terms, None, value)?;
         let reply = number(record.version);
@@ -144,6 +145,22 @@ impl Place<'_> {
         }
     }
 
+    /// 16 is tested before anything runs, and so before 15. The key gets a record,
+    /// or its record a new version, only if something was written.
+    fn bitfield(&self, subcommands: &[Subcommand]) -> Checked<Effect> {
+        check(16, subcommands.iter().all(Subcommand::fits))?;
+        let ran = run(subcommands, self.value());
+        let answer = |answer: Option<i64>| answer.map_or(Reply::Nil, Reply::Integer);
+        let reply = Reply::Array(ran.answers.into_iter().map(answer).collect());
+        let Some(value) = ran.written else {
+            return Ok(Effect::Answer(reply));
+        };
+        let (presence, change) = (Presence::Always, Change::Raise);
+        let terms = Terms { presence, change, expire: Expire::Keep };
+        let (slot, record) = self.put(&terms, None, value)?;
+        Ok(Effect::Store(slot, Some(record), reply))
+    }
+
     /// NX and XX.
     fn allowed(&self, presence: Presence) -> bool {
         match presence {
@@ -159,6 +176,11 @@ impl Place<'_> {
             (Change::RaiseFrom(version), Lookup::Live(_, record)) => version == record.version,
             _ => true,
         }
+    }
+
+    /// The value that stands there: an absent key's is empty.
+    fn value(&self) -> &[u8] {
+        self.found.live_record().map_or(&b""[..], |record| &record.value)
     }
 
     /// The number that EXINCRBY counts from: an absent key's is 0.

@@ -8,6 +8,7 @@
 
 #![forbid(unsafe_code)]
 
+mod bits;
 mod checked;
 mod command;
 mod current_value;
@@ -19,6 +20,7 @@ mod options;
 mod parse;
 mod resp;
 mod search;
+mod subcommands;
 mod table;
 
 pub use current_value::{current_value, Shown};

@@ -4,6 +4,7 @@ use crate::checked::{check, given, Checked};
 use crate::command::{look, Action, Command, End, Increment, Join, Name, Set, Swap, NAMES};
 use crate::number::{read_signed, read_version};
 use crate::options::{options_in, said_in, Said};
+use crate::subcommands::{read_subcommands, subcommands_in, Subcommand};
 use crate::table::{KEY_LIMIT, VALUE_LIMIT};
 
 /// There is at least one word.
@@ -11,10 +12,17 @@ pub fn parse(time: u64, words: &[&[u8]]) -> Checked<Command> {
     let name = given(5, look(words[0], &NAMES))?;
     check(6, count_ok(name, words.len()))?;
     check(7, sizes_ok(name, words))?;
-    let options = given(8, options_in(name, &words[name.fixed()..]))?;
+    let rest = &words[name.fixed()..];
+    // Where other commands have options, BITFIELD has subcommands.
+    let (option_words, subcommand_words) =
+        if name == Name::Bitfield { (&[][..], rest) } else { (rest, &[][..]) };
+    let options = given(8, options_in(name, option_words))?;
+    let subcommands = given(8, subcommands_in(subcommand_words))?;
     let number = given(9, read_fixed(name, words))?;
+    let subcommands = given(9, read_subcommands(&subcommands))?;
     let said = said_in(name, time, &options)?;
-    Ok(Command { key: words[1].to_vec(), action: action_of(name, words, number, said) })
+    let action = action_of(name, words, number, said, subcommands);
+    Ok(Command { key: words[1].to_vec(), action })
 }
 
 fn count_ok(name: Name, count: usize) -> bool {
@@ -45,8 +53,15 @@ fn read_fixed(name: Name, words: &[&[u8]]) -> Option<Fixed> {
     }
 }
 
-/// The action of a name, with its value, its number and what its options say.
-fn action_of(name: Name, words: &[&[u8]], number: Fixed, said: Said) -> Action {
+/// The action of a name, with its value, its number, what its options say, and
+/// its subcommands.
+fn action_of(
+    name: Name,
+    words: &[&[u8]],
+    number: Fixed,
+    said: Said,
+    subcommands: Vec<Subcommand>,
+) -> Action {
     let value = if name.has_value() { words[2].to_vec() } else { Vec::new() };
     let Fixed { by, version } = number;
     let Said { terms, flags, min, max, non_negative, with_version, with_flags } = said;
@@ -63,5 +78,6 @@ fn action_of(name: Name, words: &[&[u8]], number: Fixed, said: Said) -> Action {
         Name::Exprepend => Action::Exjoin(Join { end: End::Front, value, terms }),
         Name::Exgae => Action::Exgae { expire: terms.expire },
         Name::Del => Action::Del,
+        Name::Bitfield => Action::Bitfield(subcommands),
     }
 }

@@ -77,7 +77,7 @@ pub struct Command {
 }
 
 /// At most eight letters, low byte first, as `load_ending` gives them.
-const fn letters(text: &[u8]) -> u64 {
+pub const fn letters(text: &[u8]) -> u64 {
     let (mut v, mut i) = (0, 0);
     while i < text.len() {
         v |= (text[i] as u64) << (8 * i);
@@ -87,13 +87,16 @@ const fn letters(text: &[u8]) -> u64 {
 }
 
 /// Without the bit that tells lower case from upper: exact where the other side is a letter.
-const FOLD: u64 = 0xdfdf_dfdf_dfdf_dfdf;
+pub const FOLD: u64 = 0xdfdf_dfdf_dfdf_dfdf;
 
 #[derive(Clone, Copy)]
-struct Word {
-    at: *const u8,
-    len: usize,
+pub struct Word {
+    pub at: *const u8,
+    pub len: usize,
 }
+
+/// Room for the words of a command.
+pub type Words = [MaybeUninit<Word>; 16];
 
 const CRLF: u16 = u16::from_le_bytes(*b"\r\n");
 
@@ -101,7 +104,7 @@ const CRLF: u16 = u16::from_le_bytes(*b"\r\n");
 #[inline(never)]
 // As a range it takes one instruction more.
 #[allow(clippy::manual_range_contains)]
-unsafe fn split(c: *const u8, n: usize, words: &mut [MaybeUninit<Word>; 16]) -> usize {
+unsafe fn split(c: *const u8, n: usize, words: &mut Words) -> usize {
     if n < 10 || n > 512 {
         return 0;
     }
@@ -257,11 +260,11 @@ unsafe fn option_of(p: *const u8, len: usize) -> (u32, u32) {
     }
 }
 
-/// Reads a whole command. The time is at most 2^62.
+/// Reads a whole command and leaves its words. A BITFIELD has number 5 here. The time is at most
+/// 2^62.
 #[inline(always)]
-pub unsafe fn read(c: *const u8, n: usize, time: u64) -> Result<Command, u32> {
-    let mut words = [MaybeUninit::<Word>::uninit(); 16];
-    let count = split(c, n, &mut words);
+pub unsafe fn read(words: &mut Words, c: *const u8, n: usize, time: u64) -> Result<Command, u32> {
+    let count = split(c, n, words);
     if count == 0 {
         return Err(4);
     }

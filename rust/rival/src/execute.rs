@@ -14,7 +14,14 @@ pub unsafe fn version_of(r: *const u8) -> u64 {
 
 /// A whole record afresh, but for its value.
 #[inline(always)]
-unsafe fn fresh(r: *mut u8, key: &Key, value_len: usize, flags: u32, version: u64, expiry: u64) {
+pub unsafe fn fresh(
+    r: *mut u8,
+    key: &Key,
+    value_len: usize,
+    flags: u32,
+    version: u64,
+    expiry: u64,
+) {
     store64(r, 1 | (key.len as u64) << 8 | (value_len as u64) << 16 | (flags as u64) << 32);
     store64(r.add(8), version);
     store64(r.add(16), expiry);

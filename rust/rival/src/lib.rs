@@ -7,6 +7,7 @@
 //! slot; the key's record is then found by that hash. The hash is fixed: keys made to collide make
 //! it quadratic.
 
+mod bitfield;
 mod bytes;
 mod command;
 mod execute;
@@ -14,11 +15,11 @@ mod reply;
 mod table;
 
 use bytes::copy64;
-use command::{read, Op};
+use command::{read, Op, Words};
 use core::mem::MaybeUninit;
 use execute::{execute, version_of};
 use reply::{Reply, ERRORS};
-use table::{check, is_live, RECORD, TOP_TIME, TOP_VERSION};
+use table::{check, is_live, Index, RECORD, TOP_TIME, TOP_VERSION};
 
 /// Where a current value stands: in the command if `in_command`, else in the table, from byte
 /// `start` on, `len` bytes long.
@@ -34,8 +35,8 @@ pub struct Shown {
 #[inline(never)]
 pub fn call(table: &mut [u8], time: u64, command: &[u8], reply: &mut [u8]) -> (u32, usize) {
     // SAFETY: the pointers come from slices, with their lengths, and the mutable ones are borrowed
-    // alone. `execute` gets a table that `check` found good, a command read from `command`, and a
-    // reply buffer of 128 bytes, which every reply fits.
+    // alone. `execute` and `bitfield::run` get a table that `check` found good, a command or its
+    // words read from `command`, and a reply buffer of 128 bytes, which every reply fits.
     unsafe { call_at(table, time, command, reply) }
 }
 
@@ -52,13 +53,39 @@ unsafe fn call_at(table: &mut [u8], time: u64, command: &[u8], reply: &mut [u8])
     if reply.len() < 128 {
         return (3, 0);
     }
+    let mut words: Words = [MaybeUninit::uninit(); 16];
     let start = reply.as_mut_ptr();
     let mut out = Reply { at: start };
-    let number = match read(command.as_ptr(), command.len(), time) {
+    let number = match read(&mut words, command.as_ptr(), command.len(), time) {
         Ok(c) => execute(table.as_mut_ptr(), time, &c, index, &mut out),
         Err(4) => return (4, 0),
+        // Asked last and answered apart, so that it costs the other commands nothing.
+        Err(5) if bitfield::is_name(words[0].assume_init()) => {
+            return bitfield_at(table, time, command, &words, index, start);
+        }
         Err(number) => number,
     };
+    answer(number, start, out)
+}
+
+#[inline(never)]
+unsafe fn bitfield_at(
+    table: &mut [u8],
+    time: u64,
+    command: &[u8],
+    words: &Words,
+    index: &Index,
+    start: *mut u8,
+) -> (u32, usize) {
+    let mut out = Reply { at: start };
+    let words = words.as_ptr().cast();
+    let number = bitfield::run(table.as_mut_ptr(), time, command.as_ptr(), words, index, &mut out);
+    answer(number, start, out)
+}
+
+/// The number and the length of the reply, which for a refusal is its error.
+#[inline(always)]
+unsafe fn answer(number: u32, start: *mut u8, out: Reply) -> (u32, usize) {
     if number == 0 {
         return (0, out.at.offset_from(start) as usize);
     }
@@ -79,7 +106,8 @@ unsafe fn current_value_at(table: &[u8], time: u64, command: &[u8]) -> Option<Sh
         return None;
     }
     let index = index.assume_init_ref();
-    let c = read(command.as_ptr(), command.len(), time).ok()?;
+    let mut words: Words = [MaybeUninit::uninit(); 16];
+    let c = read(&mut words, command.as_ptr(), command.len(), time).ok()?;
     if c.op != Op::Get && c.op != Op::Cas {
         return None;
     }

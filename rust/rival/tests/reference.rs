@@ -4,7 +4,7 @@
 use difftest::compare::Candidate;
 use difftest::layout::{records_mut, Fields, RECORD};
 use difftest::resp::encode;
-use difftest::{case, settings, Answer, Case, Rng};
+use difftest::{bitfield_case, case, settings, Answer, Case, Rng};
 use reference::Shown;
 
 const RIVAL: Candidate = Candidate { name: "rival", call, current_value };
@@ -33,6 +33,16 @@ fn the_rival_agrees_with_the_reference() {
     let mut rng = Rng::new(seed);
     for _ in 0..calls {
         compare(&case(&mut rng));
+    }
+}
+
+#[test]
+fn the_rival_agrees_with_the_reference_on_fields() {
+    let (seed, calls) = (settings::seed(), settings::calls());
+    settings::announce(&format!("comparing {calls} BITFIELD calls of the rival, seed {seed}"));
+    let mut rng = Rng::new(seed);
+    for _ in 0..calls {
+        compare(&bitfield_case(&mut rng));
     }
 }
 

@@ -4,7 +4,7 @@ use mathlib.Core.Path.{ap, subst}
 use Rattle.command.specs.Command.{modelAction}
 use Rattle.live.specs.Under.{shapeOf}
 use Rattle.execute.specs.Does.{ActionFits, actIn}
-use Rattle.execute.proofs.Writing.{does-as}
+use Rattle.write.proofs.Writing.{does-as}
 use Rattle.execute.proofs.execute.Statement.{statement}
 use Rattle.execute.proofs.execute.Tie as tie
 

@@ -16,9 +16,9 @@ use Rattle.slice.proofs.Equal.{never}
 use Rattle.record.specs.Forms.{formOf, Lawful}
 use Rattle.record.specs.Record.{InUse, isUsed}
 use Rattle.record.proofs.Forms.{lawful-form}
-use Rattle.table.specs.Index.{entryFrom, countOf, keyIs, keyEntry, Chain}
+use Rattle.index.specs.Index.{entryFrom, countOf, keyIs, keyEntry, Chain}
 use Rattle.table.proofs.Parts.{length-slot}
-use Rattle.table.proofs.Chains.{inside-count}
+use Rattle.index.proofs.Chains.{inside-count}
 use Rattle.integrity.specs.declared.Entered.{Entered}
 use Rattle.integrity.specs.declared.Entered.the-variants.{After}
 use Rattle.integrity.specs.Check.{faultless, Checks, Tests}

@@ -12,7 +12,7 @@ use Rattle.slice.proofs.Equal.{never}
 use Rattle.record.specs.Forms.{formOf}
 use Rattle.record.specs.Record.{isUsed}
 use Rattle.record.proofs.Reading.{read-unused, read-used}
-use Rattle.table.specs.Index.{Enters}
+use Rattle.index.specs.Index.{Enters}
 use Rattle.integrity.specs.Check.{EntersUsed}
 use borrow.Author.Needs.{needs}
 use Rattle.integrity.proofs.enter.Statement.{statement}

@@ -8,7 +8,7 @@ use lib.IntN.{ℤ, pos, negsuc, negℤ, natAbs, _+ℤ_, _-ℤ_}
 use lib.Signed.{ltZ, mag}
 use mir.Syntax.{w64}
 use mir.Val.{SFits}
-use Rattle.number.proofs.Integers.{back, back-is, below-zero, not-below-zero, lt-true, dn-le, mag-add, same, up-add, up-neg, dn-neg}
+use Rattle.number.proofs.Integers.{back, back-is, below-zero, not-below-zero, lt-true, dn-le, mag-add, parts-eq, up-add, up-neg, dn-neg}
 use borrow.Author.Needs.{needs}
 use Rattle.number.proofs.magnitude.Statement.{statement}
 use Rattle.number.proofs.magnitude.Tie as tie
@@ -16,7 +16,7 @@ use Rattle.number.proofs.magnitude.Tie as tie
 less-of : (n : ℕ) → pos 0 -ℤ (negsuc n +ℤ pos 1) ≡ pos n
 less-of n =
     let y = negsuc n +ℤ pos 1 in
-    same (pos 0 -ℤ y) (pos n) (omega (arith, up-add (pos 0) (negℤ y), up-neg y, dn-neg y, up-add (negsuc n) (pos 1)))
+    parts-eq (pos 0 -ℤ y) (pos n) (omega (arith, up-add (pos 0) (negℤ y), up-neg y, dn-neg y, up-add (negsuc n) (pos 1)))
 
 -- z is below 0
 module _ (c : tie.Then1) where

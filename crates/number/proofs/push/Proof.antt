@@ -16,7 +16,7 @@ use Rattle.model.specs.Number.{readDigits}
 use Rattle.number.specs.Answer.{negativeFrom}
 use Rattle.number.specs.declared.Signed.{Signed}
 use Rattle.number.specs.declared.Signed.the-variants.{Value, Bad}
-use Rattle.number.proofs.Integers.{least, up, dn, back, back-is, lt-true, lt-false, fits-of, up-add, up-mul, dn-mul, up-neg, dn-neg, mag-add, same, neg-fits}
+use Rattle.number.proofs.Integers.{least, up, dn, back, back-is, lt-true, lt-false, fits-of, up-add, up-mul, dn-mul, up-neg, dn-neg, mag-add, parts-eq, neg-fits}
 use Rattle.number.proofs.Reading.{digit-in, digit-low, digit-high, negative-in, negative-out}
 use Rattle.number.proofs.push.Statement.{statement}
 use Rattle.number.proofs.push.Tie as tie
@@ -77,7 +77,7 @@ module _ {a : ℤ} {k : ℕ} (d : Digit a k) where
 
     value : a *ℤ pos 10 -ℤ pos (k - 48) ≡ negℤ (pos next)
     value =
-        same (a *ℤ pos 10 -ℤ pos (k - 48)) (negℤ (pos next))
+        parts-eq (a *ℤ pos 10 -ℤ pos (k - 48)) (negℤ (pos next))
         (omega (arith, up-add (a *ℤ pos 10) (negℤ (pos (k - 48))), up-neg (pos (k - 48)), dn-neg (pos (k - 48)), up-mul a 10, dn-mul a 10, up-is, dn-is, up-neg (pos next), dn-neg (pos next)))
 
     next-fits : SFits w64 (a *ℤ pos 10 -ℤ pos (k - 48))

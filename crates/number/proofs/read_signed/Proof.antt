@@ -8,22 +8,16 @@ use mathlib.Core.Option.{Option}
 use Prim.Native.Nat.{ℕ, zero, suc, _-_, _^_, _<_, _≤_}
 use native.Mathlib.Nat.{eq-or-lt-of-le}
 use native.Mathlib.Omega.{arith}
-use lib.ListN.{length, drop, take, length-drop}
-use lib.Seq.{take-all}
 use lib.IntN.{ℤ, pos, negℤ, _-ℤ_}
 use mir.Syntax.{w64}
 use mir.Val.{SFits, ofZ}
 use Rattle.model.specs.Number.{readPositive, readSigned}
 use Rattle.number.specs.Answer.{signedFrom, negativeFrom}
-use Rattle.number.proofs.Integers.{back-is, same, up-add, up-neg, dn-neg}
-use Rattle.number.proofs.Reading.{Negative, negative, plainFrom, plain-bad, plain-out, plain-in, text-none, text-minus, text-zero, text-plain}
+use Rattle.number.proofs.Integers.{back-is, parts-eq, up-add, up-neg, dn-neg}
+use Rattle.number.proofs.Reading.{Negative, negative, plainFrom, plain-bad, plain-out, plain-in, text-none, text-minus, text-zero, text-plain, rest-is}
 use borrow.Author.Needs.{needs}
 use Rattle.number.proofs.read_signed.Statement.{statement}
 use Rattle.number.proofs.read_signed.Tie as tie
-
--- the part after the first byte
-rest-is : (s : List ℕ) → take (length s - 1) (drop 1 s) ≡ drop 1 s
-rest-is s = take-all (length s - 1) (drop 1 s) (simp length-drop (omega arith))
 
 -- minus n has the least number's bits where n is 2 ^ 63 alone
 bits-least : (n : ℕ) → n ≤ 2 ^ 63 → ofZ w64 (negℤ (pos n)) ≡ 9223372036854775808 → 2 ^ 63 ≤ n
@@ -35,7 +29,7 @@ bits-other n h o = ⊎-elim (λ e. absurd (o (rw e refl))) (λ l. l) (eq-or-lt-o
 
 negated : (n : ℕ) → pos 0 -ℤ negℤ (pos n) ≡ pos n
 negated n =
-    same (pos 0 -ℤ negℤ (pos n)) (pos n)
+    parts-eq (pos 0 -ℤ negℤ (pos n)) (pos n)
     (omega (arith, up-add (pos 0) (negℤ (negℤ (pos n))), up-neg (negℤ (pos n)), dn-neg (negℤ (pos n)), up-neg (pos n), dn-neg (pos n)))
 
 returns-2 : tie.Need-returns-2

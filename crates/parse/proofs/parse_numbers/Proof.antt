@@ -1,7 +1,7 @@
 -- `parse::parse_numbers` meets its contract: the number among the fixed words is tested before what the options say.
 use borrow.Author.Needs.{needs}
 use native.Mathlib.Omega.{arith}
-use mathlib.Core.Path.{refl, ap, _∙_}
+use mathlib.Core.Path.{_≡_, refl, ap, _∙_, subst}
 use mir.Syntax.{w64}
 use mir.Val.{SFits}
 use lib.IntN.{ℤ}
@@ -10,6 +10,7 @@ use Rattle.model.specs.Command as model
 use Rattle.model.specs.Command.{under, ruleOf}
 use Rattle.model.specs.Parse.{wordAt, actionOf}
 use Rattle.number.proofs.Integers.{back-is}
+use Rattle.command.specs.Command.{modelAction}
 use Rattle.command.specs.Words.{modelName}
 use Rattle.values.specs.Values.{modelSaid}
 use Rattle.values.proofs.Answers.{passed-is, refused-is}
@@ -37,7 +38,8 @@ returns-3 c = λ time ws gs h.
     let n = modelName (a .name) in
     let fits : SFits w64 (a .fixed .by) = record { sfits = c .before .struct-told .given .0 .1 } in
     ap (λ (x : model.Action). ok (under (wordAt 1 ws) x))
-    (c .action-of .ensures (wordAt 2 ws) ∙ ap (λ (z : ℤ). actionOf n (wordAt 2 ws) (modelFixed (ruleOf n .number) z (a .fixed .version)) (modelSaid (a .said .said))) (back-is fits))
+    (subst (λ (z : ℤ). modelAction (wordAt 2 ws) (c .action-of .result) ≡ actionOf n (wordAt 2 ws) (modelFixed (ruleOf n .number) z (a .fixed .version)) (modelSaid (a .said .said))) (back-is fits)
+    (c .action-of .ensures (wordAt 2 ws)))
     ∙ numbers-in-turn time ws n gs (passed-is (a .nine) _ (omega (arith, p .if1 .left)) ∙ h .fixed) (passed-is (a .said .number) _ (omega (arith, q .if2 .left)) ∙ h .said)
 
 pub parse-numbers-spec : {M : Type 1} → statement M

@@ -4,7 +4,7 @@ use mathlib.Core.Bool.{Bool}
 use Prim.Native.Nat.{ℕ}
 use borrow.Author.Needs.{needs}
 use Rattle.model.specs.CurrentValue.{Shown, nothing, inTable, inCommand, isShown, isInCommand, startOf, lengthOf}
-use Rattle.store.specs.Shows.{modelShown}
+use Rattle.current.specs.Shows.{modelShown}
 use Rattle.pietrunel.specs.Located.{Located}
 use Rattle.pietrunel.proofs.pietrunel_current_value.Statement.{statement}
 use Rattle.pietrunel.proofs.pietrunel_current_value.Tie as tie

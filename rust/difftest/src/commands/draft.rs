@@ -2,7 +2,7 @@
 
 use super::choices::{self, Choice};
 use super::subject::Subject;
-use super::{any_case, Faults};
+use super::{any_case, bitfield, Faults};
 use crate::{words, Rng};
 
 /// A command in the making.
@@ -19,8 +19,13 @@ pub struct Draft {
 }
 
 impl Draft {
-    pub fn new(rng: &mut Rng, faults: &Faults, table: &[u8], time: u64) -> Draft {
-        let name = pick_name(rng, faults);
+    pub fn new(
+        rng: &mut Rng,
+        faults: &Faults,
+        name: &'static str,
+        table: &[u8],
+        time: u64,
+    ) -> Draft {
         let subject = Subject::new(rng, table);
         let mut draft = Draft {
             words: vec![any_case(rng, name), subject.key.clone()],
@@ -38,8 +43,10 @@ impl Draft {
             "EXGET" => choices::plain(rng, "WITHFLAGS", 50).into_iter().collect(),
             _ => Vec::new(),
         };
-        if let "EXSETVER" | "EXCAD" = name {
-            draft.number(subject.version_word(rng));
+        match name {
+            "EXSETVER" | "EXCAD" => draft.number(subject.version_word(rng)),
+            "BITFIELD" => draft.words.extend(bitfield::subcommands(rng, faults, &subject.value)),
+            _ => {}
         }
         rng.shuffle(&mut choices);
         draft.add(rng, choices);
@@ -119,23 +126,4 @@ impl Draft {
         self.words.push(number);
         self.fixed += 1;
     }
-}
-
-/// A name whose command can have the faults that are asked for.
-fn pick_name(rng: &mut Rng, faults: &Faults) -> &'static str {
-    let names: &[&str] = if faults.has(11) {
-        &["EXINCRBY"]
-    } else if faults.has(10) {
-        &["EXSET", "EXINCRBY", "EXCAS", "EXGAE"]
-    } else if faults.has(9) {
-        &["EXSET", "EXSETVER", "EXINCRBY", "EXCAS", "EXCAD", "EXAPPEND", "EXGAE"]
-    } else if faults.has(8) {
-        &["EXSET", "EXGET", "EXINCRBY", "EXCAS", "EXAPPEND", "EXPREPEND", "EXGAE"]
-    } else {
-        &[
-            "EXSET", "EXSET", "EXGET", "EXSETVER", "EXINCRBY", "EXINCRBY", "EXINCRBY", "EXCAS",
-            "EXCAS", "EXCAD", "EXAPPEND", "EXPREPEND", "EXGAE", "DEL",
-        ]
-    };
-    rng.pick(names)
 }

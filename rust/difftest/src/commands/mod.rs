@@ -1,19 +1,27 @@
 //! Random commands on the keys of a table, with faults on demand.
 
+mod bitfield;
 mod choices;
 mod draft;
 mod faults;
 mod spoil;
 mod subject;
 
+pub use bitfield::bitfield_words;
 pub use faults::Faults;
 
 use crate::{frames, resp, Rng};
 use draft::Draft;
 
-/// A whole command, encoded.
-pub fn command(rng: &mut Rng, faults: &Faults, table: &[u8], time: u64) -> Vec<u8> {
-    let words = command_words(rng, faults, table, time);
+/// A whole command of a name, encoded.
+pub fn command(
+    rng: &mut Rng,
+    faults: &Faults,
+    name: &'static str,
+    table: &[u8],
+    time: u64,
+) -> Vec<u8> {
+    let words = words_of(rng, faults, name, table, time);
     let mut command = resp::encode(&words);
     if rng.chance(1) {
         command = frames::stretch(rng, words);
@@ -24,11 +32,41 @@ pub fn command(rng: &mut Rng, faults: &Faults, table: &[u8], time: u64) -> Vec<u
     command
 }
 
-/// A command's words.
+/// The words of any command.
 pub fn command_words(rng: &mut Rng, faults: &Faults, table: &[u8], time: u64) -> Vec<Vec<u8>> {
-    let mut draft = Draft::new(rng, faults, table, time);
+    let name = pick_name(rng, faults);
+    words_of(rng, faults, name, table, time)
+}
+
+fn words_of(
+    rng: &mut Rng,
+    faults: &Faults,
+    name: &'static str,
+    table: &[u8],
+    time: u64,
+) -> Vec<Vec<u8>> {
+    let mut draft = Draft::new(rng, faults, name, table, time);
     draft.spoil(rng, faults);
     draft.words
+}
+
+/// A name whose command can have the faults that are asked for.
+pub fn pick_name(rng: &mut Rng, faults: &Faults) -> &'static str {
+    let names: &[&str] = if faults.has(11) {
+        &["EXINCRBY"]
+    } else if faults.has(10) {
+        &["EXSET", "EXINCRBY", "EXCAS", "EXGAE"]
+    } else if faults.has(9) {
+        &["EXSET", "EXSETVER", "EXINCRBY", "EXCAS", "EXCAD", "EXAPPEND", "EXGAE", "BITFIELD"]
+    } else if faults.has(8) {
+        &["EXSET", "EXGET", "EXINCRBY", "EXCAS", "EXAPPEND", "EXPREPEND", "EXGAE", "BITFIELD"]
+    } else {
+        &[
+            "EXSET", "EXSET", "EXGET", "EXSETVER", "EXINCRBY", "EXINCRBY", "EXINCRBY", "EXCAS",
+            "EXCAS", "EXCAD", "EXAPPEND", "EXPREPEND", "EXGAE", "DEL", "BITFIELD", "BITFIELD",
+        ]
+    };
+    rng.pick(names)
 }
 
 /// The word in upper, lower or mixed case.

@@ -1,7 +1,7 @@
 //! Faults in the words of a command, for numbers 5 to 9.
 
 use super::draft::Draft;
-use super::{any_case, Faults};
+use super::{any_case, bitfield, Faults};
 use crate::{words, Rng};
 
 impl Draft {
@@ -12,6 +12,7 @@ impl Draft {
             match number {
                 9 => self.spoil_number(rng),
                 7 => self.spoil_length(rng),
+                8 if self.name == "BITFIELD" => self.spoil_subcommands(rng),
                 8 => self.spoil_options(rng),
                 6 => self.spoil_count(rng),
                 _ => self.spoil_name(rng),
@@ -76,6 +77,13 @@ impl Draft {
         self.words.truncate(16);
     }
 
+    fn spoil_subcommands(&mut self, rng: &mut Rng) {
+        let mut words = self.words.split_off(self.fixed);
+        bitfield::spoil(rng, &mut words);
+        self.words.extend(words);
+        self.words.truncate(16);
+    }
+
     /// Two options where one is allowed, first and last.
     fn double_option(&mut self, rng: &mut Rng) {
         let group = rng.pick(groups(self.name));
@@ -108,8 +116,7 @@ impl Draft {
         let at = rng.below(name.len());
         match rng.below(6) {
             0 => {
-                *name =
-                    rng.pick(&["", "GET", "SET", "CAS", "CAD", "EXINCRBYFLOAT", "BITFIELD"]).into()
+                *name = rng.pick(&["", "GET", "SET", "CAS", "CAD", "EXINCRBYFLOAT", "BITOP"]).into()
             }
             1 => name.push(0),
             2 => name.truncate(name.len() - 1),

@@ -6,8 +6,8 @@ use crate::{layout, tables, words, Rng};
 /// there, or would.
 pub struct Subject {
     pub key: Vec<u8>,
+    pub value: Vec<u8>,
     version: u64,
-    value: Vec<u8>,
 }
 
 impl Subject {

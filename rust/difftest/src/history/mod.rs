@@ -27,6 +27,8 @@ pub struct Summary {
     pub reads_only: usize,
     /// Commands on other keys that were answered.
     pub others: usize,
+    /// Those of them that were BITFIELD.
+    pub bitfields: usize,
     /// Refused calls that belong to no transaction, commands on other keys
     /// among them.
     pub refused: usize,
@@ -39,6 +41,7 @@ impl Summary {
         self.refused_writes += other.refused_writes;
         self.reads_only += other.reads_only;
         self.others += other.others;
+        self.bitfields += other.bitfields;
         self.refused += other.refused;
     }
 }

@@ -162,10 +162,12 @@ where
             }
         };
         let (number, _) = self.call(time, &words, 128);
-        match number {
-            0 => self.summary.others += 1,
-            _ => self.summary.refused += 1,
+        if number != 0 {
+            self.summary.refused += 1;
+            return Ok(());
         }
+        self.summary.others += 1;
+        self.summary.bitfields += usize::from(words[0].eq_ignore_ascii_case(b"BITFIELD"));
         Ok(())
     }
 
@@ -203,7 +205,7 @@ where
     fn refused_words(&self, rng: &mut Rng) -> Vec<Vec<u8>> {
         let wrong = (layout::version(&self.serial) ^ 1).to_string();
         let right = layout::version(&self.serial).to_string();
-        let line = match rng.below(10) {
+        let line = match rng.below(14) {
             0 => vec!["EXSET", "", "v", "VER", &wrong],
             1 => vec!["EXAPPEND", "", "v", "VER", &wrong],
             2 => vec!["EXCAS", "", "v", &right, "NOPE"],
@@ -213,6 +215,10 @@ where
             6 => vec!["DEL", ""],
             7 => vec!["EXCAD", "", &right],
             8 => vec!["EXSETVER", "", "5"],
+            9 => vec!["BITFIELD", "", "SET", "u8", "0", "1", "GET"],
+            10 => vec!["BITFIELD", "", "SET", "u8", "0", "1", "SET", "u8", "0", "256"],
+            11 => vec!["BITFIELD", "", "SET", "u8", "0", "1", "INCRBY", "u8", "505", "0"],
+            12 => vec!["BITFIELD", "", "SET", "u8", "0", "1", "OVERFLOW", "NOPE"],
             _ => vec!["EXGET", ""],
         };
         let mut words: Vec<Vec<u8>> = line.into_iter().map(|word| word.into()).collect();

@@ -109,6 +109,7 @@ fn lengths_of_keys_and_values() {
         store.refuse_words(&[b"EXPREPEND", key, b"v"], 7);
         store.refuse_words(&[b"EXGAE", key], 7);
         store.refuse_words(&[b"DEL", key], 7);
+        store.refuse_words(&[b"BITFIELD", key], 7);
     }
     let long = [b'v'; 65];
     store.refuse_words(&[b"EXSET", b"k", &long], 7);

@@ -72,8 +72,9 @@ fn other_commands_absent_keys_and_refusals_show_nothing() {
     let store = store();
     let lines = [
         "EXSET foo x", "EXGAE foo EX 5", "EXSETVER foo 7", "EXCAD foo 7", "EXINCRBY first 1",
-        "EXAPPEND foo x", "DEL foo", "GET foo", "EXGET other", "EXCAS other x 1", "EXGET",
-        "EXGET foo NOPE", "EXCAS foo x", "EXCAS foo x y", "EXCAS foo x 7 EX 0", "EXCAS foo x 7 EX",
+        "EXAPPEND foo x", "DEL foo", "BITFIELD foo GET u8 0", "BITFIELD foo SET u8 0 1", "GET foo",
+        "EXGET other", "EXCAS other x 1", "EXGET", "EXGET foo NOPE", "EXCAS foo x",
+        "EXCAS foo x y", "EXCAS foo x 7 EX 0", "EXCAS foo x 7 EX",
     ];
     for text in lines {
         assert_eq!(shown(&store, text), None, "{text}");

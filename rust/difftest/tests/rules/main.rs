@@ -4,6 +4,8 @@
 mod answers;
 mod bench_sheet;
 mod current_value;
+mod fields;
+mod overflows;
 mod rulings;
 mod sessions;
 mod sums;

@@ -110,6 +110,7 @@ fn ruling_4_fixed_words() {
         ("EXPREPEND", 3),
         ("EXGAE", 2),
         ("DEL", 2),
+        ("BITFIELD", 2),
     ] {
         let exact = matches!(name, "EXSETVER" | "EXCAD" | "DEL");
         for count in 1..=16 {

@@ -1,7 +1,8 @@
-//! The example sessions of the two TairString documents that stay within the
-//! store's commands: each from an empty table, commands as typed, replies as
-//! redis-cli prints them. The two documents agree on all of them; their
-//! prompts are shortened, their notes and trailing blanks left out.
+//! The example sessions of the two TairString documents and of the one on string
+//! commands that stay within the store's commands: each from an empty table,
+//! commands as typed, replies as redis-cli prints them. The two TairString
+//! documents agree on all of them; prompts are shortened, notes and trailing
+//! blanks left out.
 
 use super::*;
 use difftest::resp::{decode_reply, Reply};
@@ -217,5 +218,24 @@ OK
 (integer) 1
 > EXGET foo
 (nil)
+"#);
+}
+
+/// Source document 002, BITFIELD.
+#[test]
+fn bitfield() {
+    run(r#"
+> BITFIELD mykey incrby u2 100 1 OVERFLOW SAT incrby u2 102 1
+1) (integer) 1
+2) (integer) 1
+> BITFIELD mykey incrby u2 100 1 OVERFLOW SAT incrby u2 102 1
+1) (integer) 2
+2) (integer) 2
+> BITFIELD mykey incrby u2 100 1 OVERFLOW SAT incrby u2 102 1
+1) (integer) 3
+2) (integer) 3
+> BITFIELD mykey incrby u2 100 1 OVERFLOW SAT incrby u2 102 1
+1) (integer) 0
+2) (integer) 3
 "#);
 }

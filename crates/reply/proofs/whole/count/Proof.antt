@@ -1,6 +1,6 @@
 -- `reply::count` meets its contract: the number is the reply's one piece, or the array's line, the number and the version are its pieces.
 use mathlib.Core.Path.{_≡_}
-use mathlib.Core.Bool.{Bool, true, false}
+use mathlib.Core.Bool.{Bool}
 use Rattle.model.specs.Execute.{countReply}
 use Rattle.number.proofs.Integers.{back-is}
 use Rattle.reply.proofs.Writing.{Begun, begin, room, next, replied}

@@ -1,6 +1,6 @@
 -- `reply::get` meets its contract: the array's line, value and version, and with the flag a third element are the reply's pieces.
 use mathlib.Core.Path.{_≡_}
-use mathlib.Core.Bool.{Bool, true, false}
+use mathlib.Core.Bool.{Bool}
 use Prim.Native.Nat.{_<_}
 use Rattle.model.specs.Number.{flagsLimit}
 use Rattle.model.specs.Execute.{getReply}

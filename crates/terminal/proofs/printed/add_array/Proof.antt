@@ -7,10 +7,10 @@ use Rattle.terminal.proofs.printed.add_array.Statement.{statement}
 use Rattle.terminal.proofs.printed.add_array.Tie as tie
 
 abbrev Inv-loop : tie.InvT-loop
-Inv-loop page₀ reply count step₀ i₀ page step i = length page ≡ length page₀
+Inv-loop page₀ reply count next step₀ i₀ page step i = length page ≡ length page₀
 
 abbrev μ-loop : tie.MeasureT-loop
-μ-loop page₀ reply count step₀ i₀ page step i = count - i
+μ-loop page₀ reply count next step₀ i₀ page step i = count - i
 
 pub add-array-spec : {M : Type 1} → statement M
 add-array-spec =
@@ -22,6 +22,10 @@ add-array-spec =
     (λ c. search needs)
     (λ c κs. search needs)
     (λ c κs. search needs)
+    (λ c. search needs)
+    (λ c κs. search needs)
+    (λ c. search needs)
+    (λ c. search needs)
     (λ c. search needs)
     (λ c. search needs)
     (λ c. search needs)
