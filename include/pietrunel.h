@@ -3,7 +3,8 @@
  *
  * A call takes a table, a time and one command in RESP2. It gives back a number, a reply and the
  * changed table. All bytes are borrowed for the call: the library keeps no state and no pointer,
- * allocates nothing and calls nothing but memcpy, memmove, memset and memcmp.
+ * allocates nothing and calls nothing but memcpy, memmove, memset and memcmp. Built for x86-64 it has
+ * no divide instruction.
  *
  * Commands: EXSET, EXGET, EXSETVER, EXINCRBY, EXCAS, EXCAD, EXAPPEND, EXPREPEND, EXGAE, DEL and
  * BITFIELD. EXINCRBY with NONEGATIVE makes 0 of a sum below 0, however far below; after that it tests
@@ -24,8 +25,8 @@
  * by the caller, for example by a lock; pietrunel_current_value only reads, so calls of it on one
  * table may run together.
  *
- * Size on x86-64: a call takes less than 5 KiB of stack (measured: 4,264 bytes, and what memset takes),
- * the library less than 32 KiB of code and constants (measured: 28.6 KiB). bench/footprint measures
+ * Size on x86-64: a call takes less than 5 KiB of stack (measured: 4,280 bytes, and what memset takes),
+ * the library less than 32 KiB of code and constants (measured: 28.7 KiB). bench/footprint measures
  * both: the stack by the frames along the deepest chain of calls in the machine code, the rest by
  * `size`.
  *

@@ -1,7 +1,7 @@
--- Expiries in range: the number is from 1 on, and the quotient test says that the sum is at most the limit.
-use Prim.Native.Nat.{ℕ, _+_, _-_, _*_, _/_, _≤_}
+-- Expiries in range: the number is from 1 on, and the product of its upper-product half says whether the sum can be at most the limit.
+use Prim.Native.Nat.{ℕ, _+_, _-_, _*_, _/_, _%_, _^_, _≤_, _<_}
 use native.Mathlib.Omega.{arith}
-use native.Mathlib.Nat.{le-div-iff-mul-le, div-lt-iff-lt-mul, mul-comm, zero-mul}
+use native.Mathlib.Nat.{mul-add, mul-left-comm, mul-le-mul-left, le-of-lt}
 use mathlib.Core.Path.{_≡_, refl, sym, ap, _∙_}
 use mathlib.Core.Bool.{Bool, true, false}
 use mathlib.Core.Option.{Option, none, some}
@@ -19,23 +19,38 @@ use Rattle.model.proofs.Basics.{never}
 
 -- ---- the sum
 
-module _ (from unit n : ℕ) (f : from ≤ timeLimit) where
-  pub in-time-none : unit ≡ 0 → leb (from + unit * n) timeLimit ≡ true
-  in-time-none e = rw e (le-leb (from + 0 * n) timeLimit (omega (arith, zero-mul n)))
+module _ (unit n : ℕ) (u : unit < 2 ^ 16) where
+  abbrev upper-product : ℕ
+  upper-product = unit * (n / 2 ^ 32)
 
-  pub in-time-by : (unit ≡ 0 → ⊥) → leb n ((timeLimit - from) / unit) ≡ leb (from + unit * n) timeLimit
-  in-time-by u = go (leb n ((timeLimit - from) / unit)) refl
-    where
-      least : 1 ≤ unit
-      least = omega (arith, u)
+  abbrev lower-product : ℕ
+  lower-product = unit * (n % 2 ^ 32)
 
-      go : (b : Bool) → leb n ((timeLimit - from) / unit) ≡ b → b ≡ leb (from + unit * n) timeLimit
-      go true e =
-          sym (le-leb (from + unit * n) timeLimit
-          (omega (arith, le-div-iff-mul-le {k = unit} {x = n} {y = timeLimit - from} least .0 (leb-true n ((timeLimit - from) / unit) e), mul-comm unit n)))
-      go false e =
-          sym (lt-leb (from + unit * n) timeLimit
-          (omega (arith, div-lt-iff-lt-mul {k = unit} {x = timeLimit - from} {y = n} least .0 (leb-false n ((timeLimit - from) / unit) e), mul-comm unit n)))
+  -- the product by the halves of n
+  halves : unit * n ≡ 2 ^ 32 * upper-product + lower-product
+  halves =
+      let e : n ≡ 2 ^ 32 * (n / 2 ^ 32) + n % 2 ^ 32 = omega arith in
+      ap (λ (m : ℕ). unit * m) e ∙ (mul-add unit (2 ^ 32 * (n / 2 ^ 32)) (n % 2 ^ 32) ∙ ap (λ (m : ℕ). m + lower-product) (mul-left-comm unit (2 ^ 32) (n / 2 ^ 32)))
+
+  half-product-lt : (m : ℕ) → m < 2 ^ 32 → unit * m < 2 ^ 48
+  half-product-lt m l = omega (arith, mul-le-mul-left unit (le-of-lt l))
+
+  pub upper-fits : n < 2 ^ 64 → upper-product < 2 ^ 64
+  upper-fits h = omega (arith, half-product-lt (n / 2 ^ 32) (omega arith))
+
+  pub too-late : (from : ℕ) → 2 ^ 30 < upper-product → leb (from + unit * n) timeLimit ≡ false
+  too-late from l = lt-leb (from + unit * n) timeLimit (omega (arith, halves))
+
+  pub product-fits : upper-product ≤ 2 ^ 30 → unit * n < 2 ^ 64
+  product-fits l = omega (arith, halves, half-product-lt (n % 2 ^ 32) (omega arith))
+
+-- a sum is at most the limit exactly if one part is at most what the other leaves of it
+pub within : (a b limit : ℕ) → a ≤ limit → leb b (limit - a) ≡ leb (a + b) limit
+within a b limit h = go (leb b (limit - a)) refl
+  where
+    go : (t : Bool) → leb b (limit - a) ≡ t → t ≡ leb (a + b) limit
+    go true e = sym (le-leb (a + b) limit (omega (arith, leb-true b (limit - a) e)))
+    go false e = sym (lt-leb (a + b) limit (omega (arith, leb-false b (limit - a) e)))
 
 -- ---- the number
 

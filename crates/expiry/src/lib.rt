@@ -28,19 +28,20 @@ pub struct ReadExpire {
     pub expire: Expire,
 }
 
-// Whether `n` units after `from` is at most 2^62. The test divides, since the product may not fit.
-fn in_time(from: u64, unit: u64, n: u64) -> bool
+// Whether `n` units after `from` is at most 2^62. The product may not fit: that of the upper half of `n` tells.
+fn in_time(from: u64, unit: u16, n: u64) -> bool
     requires { ⌜ from ≤ timeLimit ⌝ }
     ensures { λ r. ⌜ r ≡ leb (from + unit * n) timeLimit ⌝ }
 {
-    if unit == 0 {
-        return true;
+    let upper = unit as u64 * (n >> 32);
+    if TIME_LIMIT >> 32 < upper {
+        return false;
     }
-    n <= (TIME_LIMIT - from) / unit
+    unit as u64 * n <= TIME_LIMIT - from
 }
 
 // The expiry `z` units after `from`, from 1 unit on.
-fn expiry(from: u64, unit: u64, z: i64) -> ReadExpire
+fn expiry(from: u64, unit: u16, z: i64) -> ReadExpire
     requires { ⌜ from ≤ timeLimit ⌝ }
     ensures { λ r. ⌜ checkedExpire r ≡ expireIn from false (until unit true z) ⌝ }
 {
@@ -54,7 +55,7 @@ fn expiry(from: u64, unit: u64, z: i64) -> ReadExpire
     if in_time(from, unit, n) {
         return ReadExpire {
             number: 0,
-            expire: Expire::At(from + unit * n),
+            expire: Expire::At(from + unit as u64 * n),
         };
     }
     ReadExpire {
@@ -101,6 +102,6 @@ pub fn expire_in(time: u64, keeps: bool, lifetime: Lifetime) -> ReadExpire
             unit,
             from_now,
             number,
-        } => expiry(start(time, from_now), unit as u64, number),
+        } => expiry(start(time, from_now), unit, number),
     }
 }

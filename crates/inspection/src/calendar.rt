@@ -1,6 +1,7 @@
 // The date and the time of day, in UTC, of a time in milliseconds since 1970 began.
 use terminal::add;
 use terminal::add_decimal;
+use terminal::add_natural;
 ghost use Prim.Native.Nat.{_≤_};
 
 // The milliseconds of a day.
@@ -62,17 +63,24 @@ fn place_of(days: u64) -> Place
     place_in_era(days / ERA * 400, days % ERA)
 }
 
-// Adds the last digit of a number.
-fn add_digit(page: &mut [u8], at: usize, n: u64) -> usize {
-    let digit = (48 + n % 10) as u8;
-    add(page, at, &[digit])
+// Adds a number in two digits or more after a byte.
+fn add_two(page: &mut [u8], at: usize, before: u8, n: u64) -> usize {
+    let next = add(page, at, &[before]);
+    if n < 10 {
+        return add_natural(page, next, b"0", n);
+    }
+    add_decimal(page, next, n)
 }
 
-// Adds the last two digits of a number after a byte.
-fn add_two(page: &mut [u8], at: usize, before: u8, n: u64) -> usize {
-    let first = add(page, at, &[before]);
-    let next = add_digit(page, first, n / 10);
-    add_digit(page, next, n)
+// Adds a number in three digits or more after a point.
+fn add_three(page: &mut [u8], at: usize, n: u64) -> usize {
+    if n < 10 {
+        return add_natural(page, at, b".00", n);
+    }
+    if n < 100 {
+        return add_natural(page, at, b".0", n);
+    }
+    add_natural(page, at, b".", n)
 }
 
 // Adds the year, month and day of a place. March is month 0 of such a year; January and February are of the next year.
@@ -90,10 +98,7 @@ fn add_clock(page: &mut [u8], at: usize, ms: u64) -> usize {
     let hours = add_two(page, at, b' ', ms / 3600000);
     let minutes = add_two(page, hours, b':', ms / 60000 % 60);
     let seconds = add_two(page, minutes, b':', ms / 1000 % 60);
-    let point = add(page, seconds, b".");
-    let first = add_digit(page, point, ms / 100);
-    let next = add_digit(page, first, ms / 10);
-    let last = add_digit(page, next, ms);
+    let last = add_three(page, seconds, ms % 1000);
     add(page, last, b" UTC)")
 }
 

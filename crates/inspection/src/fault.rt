@@ -12,6 +12,7 @@ use record::VALUE_LENGTH_AT;
 use record::VERSION_AT;
 use record::VERSION_LIMIT;
 use terminal::complain;
+use terminal::print_decimal;
 ghost use mathlib.Core.Path.{_≡_};
 ghost use Prim.Native.Nat.{_≤_, _<_};
 ghost use lib.ListN.{length};
@@ -112,7 +113,7 @@ fn tell_slot(path: &[u8], slot: usize) {
     complain(b"pietrunel: ");
     complain(path);
     complain(b": slot ");
-    io::print_decimal(libc::STDERR_FILENO, slot as u64);
+    print_decimal(libc::STDERR_FILENO, slot as u64);
     complain(b": ");
 }
 
@@ -169,7 +170,7 @@ fn tell_fault(table: &[u8], r: &[u8], slot: usize, path: &[u8])
     if twin < slot {
         tell_slot(path, slot);
         complain(b"the key is that of slot ");
-        io::print_decimal(libc::STDERR_FILENO, twin as u64);
+        print_decimal(libc::STDERR_FILENO, twin as u64);
         complain(b" too\n");
     }
 }

@@ -1,10 +1,9 @@
 // Decimal text and signed numbers of 64 bits, both ways, and their exact sum.
 ghost use mathlib.Core.Path.{_≡_};
 ghost use mathlib.Core.List.{[], _∷_};
-ghost use Prim.Native.Nat.{_+_, _≤_};
+ghost use Prim.Native.Nat.{ℕ, suc, _+_, _-_, _*_, _/_, _%_, _^_, _≤_, _<_};
 ghost use lib.ListN.{length};
 ghost use lib.IntN.{pos, negℤ, natAbs, _+ℤ_};
-ghost use Rattle.model.specs.Bytes.{written};
 ghost use Rattle.model.specs.Number.{readDigits, readPositive, readSigned, readBelow, readVersion, readFlags, signedLimit, natText, intText};
 ghost use Rattle.slice.specs.Wrote.{Wrote};
 ghost use Rattle.number.specs.Answer.{signedFrom, naturalFrom, sumFrom, negativeFrom};
@@ -164,46 +163,87 @@ pub fn add(a: i64, b: i64) -> Sum
     Sum::Fits(a + b)
 }
 
+// How many digits a number has, and the power of ten of the first.
+struct Scale {
+    digits: usize,
+    power: u64,
+}
+
+// The scale of `n`. The power of ten after 10^19 would not fit.
+fn scale_of(n: u64) -> Scale
+    ensures { λ r. ⌜ (r .digits ≡ length (natText n)) × (r .power ≡ 10 ^ (r .digits - 1)) ⌝ }
+{
+    let mut digits = 1;
+    let mut power: u64 = 1;
+    while digits < 20 {
+        let next = power * 10;
+        if n < next {
+            return Scale { digits, power };
+        }
+        power = next;
+        digits += 1;
+    }
+    Scale { digits, power }
+}
+
 // How many digits the text of `n` has.
 pub fn count_digits(n: u64) -> usize
     ensures { λ r. ⌜ r ≡ length (natText n) ⌝ }
 {
-    let mut k = 1;
-    let mut power: u64 = 10;
-    while power <= n {
-        k += 1;
-        if k == 20 {
-            // the next power of ten would not fit
-            return k;
-        }
-        power *= 10;
-    }
-    k
+    scale_of(n).digits
 }
 
-// Writes the `k` digits of `n` over `buf` from place `at` on, the last digit first.
-fn write_digits(buf: &mut [u8], at: usize, k: usize, n: u64)
-    requires { ⌜ (k ≡ length (natText n)) × (at + k ≤ length (now buf)) ⌝ }
-    ensures { λ _. ⌜ now (buf .exit) ≡ written at (natText n) (now (buf .entry)) ⌝ }
+// The power of ten below a power of ten, multiplied up from 1, so that nothing is divided.
+fn power_below(power: u64) -> u64
+    requires { ⌜ power ≤ 10 ^ 19 ⌝ }
+    ensures { λ r. ⌜ ((k : ℕ) → power ≡ 10 ^ suc k → r ≡ 10 ^ k) ⌝ }
 {
-    let mut left = k - 1;
-    let mut rest = n;
-    while 10 <= rest {
-        buf[at + left] = b'0' + (rest % 10) as u8;
-        left -= 1;
-        rest = rest / 10;
+    let mut below = 1;
+    let mut next = 10;
+    while next < power {
+        below = next;
+        next *= 10;
     }
-    buf[at] = b'0' + rest as u8;
+    below
 }
 
-// Writes the text of `n` over `buf` from place `at` on, and gives back the place after it.
+// The byte of a digit, and what is left of the number after it.
+struct Digit {
+    byte: u8,
+    rest: u64,
+}
+
+// The digit of `n` at a power of ten: how often the power can be taken away.
+fn take_digit(n: u64, power: u64) -> Digit
+    requires { ⌜ n < 10 * power ⌝ }
+    ensures { λ r. ⌜ (r .byte ≡ 48 + n / power) × (r .rest ≡ n % power) ⌝ }
+{
+    let mut byte = b'0';
+    let mut rest = n;
+    while power <= rest {
+        byte += 1;
+        rest -= power;
+    }
+    Digit { byte, rest }
+}
+
+// Writes the text of `n` over `buf` from place `at` on, at falling powers of ten, and gives back the place after it.
 pub fn write_natural(buf: &mut [u8], at: usize, n: u64) -> usize
     requires { ⌜ at + length (natText n) ≤ length (now buf) ⌝ }
     ensures { λ r. ⌜ Wrote at (natText n) (now (buf .entry)) (now (buf .exit)) r ⌝ }
 {
-    let k = count_digits(n);
-    write_digits(buf, at, k, n);
-    at + k
+    let mut power = scale_of(n).power;
+    let mut place = at;
+    let mut rest = n;
+    while 1 < power {
+        let digit = take_digit(rest, power);
+        buf[place] = digit.byte;
+        rest = digit.rest;
+        place += 1;
+        power = power_below(power);
+    }
+    buf[place] = b'0' + rest as u8;
+    place + 1
 }
 
 // Writes the text of `z` over `buf` from place `at` on, and gives back the place after it.

@@ -1,4 +1,5 @@
 // A command line as a RESP2 array of bulk strings. What passes the buffer's 512 bytes is left out.
+use terminal::decimal;
 use terminal::find;
 
 // Puts b at a place of out, where it has room, and gives back the next place.
@@ -25,7 +26,7 @@ fn put_text(out: &mut [u8; 512], at: usize, text: &[u8]) -> usize {
 // Puts a line of RESP2 that is a count, `*3` or `$5`, and gives back the place after it.
 fn put_count(out: &mut [u8; 512], at: usize, kind: u8, n: usize) -> usize {
     let mut digits = [0u8; 20];
-    let k = io::decimal(n as u64, &mut digits);
+    let k = decimal(n as u64, &mut digits);
     let after_kind = put(out, at, kind);
     let after_digits = put_text(out, after_kind, &digits[..k]);
     put_text(out, after_digits, b"\r\n")

@@ -4,6 +4,7 @@ use crate::notice::refuse;
 use number::Natural;
 use tablefile::Rights;
 use terminal::find;
+use terminal::print_decimal;
 
 // The descriptor on which the keeper is told.
 const TOLD: i32 = 3;
@@ -98,6 +99,6 @@ pub fn let_go(kept: bool) {
 // Tells the exit status.
 pub fn tell_status(status: u64) {
     io::write_all(TOLD, b"status ");
-    io::print_decimal(TOLD, status);
+    print_decimal(TOLD, status);
     io::write_all(TOLD, b"\n");
 }

@@ -1,27 +1,17 @@
 -- `Wrote`: a text written byte by byte, pieces written one after another, and what stands at the front afterwards.
 use mathlib.Core.Path.{_≡_, sym, ap, _∙_}
-use mathlib.Core.List.{List, [], _∷_, _++_, append-assoc}
+use mathlib.Core.List.{List, _∷_, _++_, append-assoc}
 use Prim.Native.Nat.{ℕ, suc, _+_, _≤_, _<_}
 use native.Mathlib.Nat.{zero-add}
 use native.Mathlib.Numerals.{add-one}
 use native.Mathlib.Omega.{arith}
-use lib.ListN.{length, take, drop, set, length-set, length-append}
-use lib.Seq.{drop-cons, getD-set-same, drop-set-lt, take-set-le, take-suc-set, take-append-seam}
+use lib.ListN.{length, take, drop, set, length-append}
+use lib.Seq.{drop-set-lt, take-suc-set, take-append-seam}
 use Rattle.model.specs.Bytes.{written}
 use Rattle.slice.specs.Wrote.{Wrote}
 use Rattle.slice.proofs.Written.{written-written, length-written}
 
 -- ---- byte by byte
-
--- the last byte of a text is stored: the text before it is to be written
-pub written-last : (at : ℕ) (s : List ℕ) (x : ℕ) (b : List ℕ) (n : ℕ) → length s ≡ n → at + n < length b
-    → written at (s ++ (x ∷ [])) b ≡ written at s (set b (at + n) x)
-written-last at s x b n q h =
-    let i = at + n in
-    let tail : drop i (set b i x) ≡ x ∷ drop (suc i) b =
-    drop-cons (set b i x) i 0 (rw (length-set b i x) h) ∙ rw (getD-set-same b i x 0 h, drop-set-lt (suc i) b i x (omega arith)) in
-    let e : at + length (s ++ (x ∷ [])) ≡ suc i = omega (arith, length-append s (x ∷ [])) in
-    rw (take-set-le at b i x (omega arith), q, tail, e) (simp append-assoc)
 
 -- the first byte of a text is stored: the text after it is to be written
 pub written-first : (at x : ℕ) (s b : List ℕ) → at < length b → written at (x ∷ s) b ≡ written (at + 1) s (set b at x)

@@ -1,9 +1,12 @@
-// Text for a terminal: bytes as they are, bytes in quotes with the unprintable ones escaped, and replies as redis-cli prints them.
+// Text for a terminal: bytes as they are, numbers, bytes in quotes with the unprintable ones escaped, and replies as redis-cli prints them.
+mod digits;
 mod escape;
 mod page;
 mod printed;
 mod text;
 
+pub use digits::decimal;
+pub use digits::print_decimal;
 pub use escape::add_quoted;
 pub use page::PAGE;
 pub use page::add;

@@ -1,4 +1,5 @@
 // Text that is put together in a buffer and then written at once, so that what several programs write to one output stays whole.
+use crate::digits::decimal;
 use crate::text::print;
 
 // The room for a text.
@@ -22,7 +23,7 @@ pub fn add(page: &mut [u8], at: usize, s: &[u8]) -> usize {
 // Adds a number by its decimal digits.
 pub fn add_decimal(page: &mut [u8], at: usize, n: u64) -> usize {
     let mut digits = [0u8; 20];
-    let k = io::decimal(n, &mut digits);
+    let k = decimal(n, &mut digits);
     add(page, at, &digits[..k])
 }
 

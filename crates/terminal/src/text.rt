@@ -1,4 +1,5 @@
 // Bytes of text: written to standard output or standard error, and searched.
+use crate::digits::print_decimal;
 use libc::STDERR_FILENO;
 use libc::STDOUT_FILENO;
 ghost use Prim.Native.Nat.{_≤_};
@@ -17,7 +18,7 @@ pub fn complain(text: &[u8]) {
 // Writes text and n.
 pub fn print_natural(text: &[u8], n: u64) {
     print(text);
-    io::print_decimal(STDOUT_FILENO, n);
+    print_decimal(STDOUT_FILENO, n);
 }
 
 // Writes text and n on a line of their own.

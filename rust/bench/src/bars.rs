@@ -1,6 +1,6 @@
 //! What the library may cost beside the rival, and how figures stand to that.
 
-use crate::rows::{COLLIDING, FIELDS, NAMES, SIZES};
+use crate::rows::{COLLIDING, FIELDS, LONG_VERSION, NAMES, SIZES};
 
 /// The most that the geometric mean of all ratios of library to rival may be.
 const MEAN_BAR: f64 = 1.25;
@@ -41,10 +41,11 @@ impl Line {
         format!("{name:15} {records:7} {library:9.digits$} {rival:9.digits$} {ratio:6.2}{mark}")
     }
 
-    /// Whether the ratio counts for the mean and the worst. Keys that share a
-    /// bucket of the library's index have a bar of their own, and so has BITFIELD.
+    /// Whether the ratio counts for the mean and the worst. The others stand
+    /// apart, with a bar of their own or none.
     fn counts(&self) -> bool {
-        self.name != COLLIDING && !FIELDS.contains(&self.name.as_str())
+        let name = self.name.as_str();
+        ![COLLIDING, LONG_VERSION].contains(&name) && !FIELDS.contains(&name)
     }
 }
 

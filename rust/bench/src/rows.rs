@@ -20,6 +20,10 @@ pub const NAMES: [&str; 13] = [
 /// BITFIELD of one field. They count neither for the mean nor for the worst.
 pub const FIELDS: [&str; 2] = ["BITFIELD GET", "BITFIELD INCRBY"];
 
+/// A row that stands apart, with no bar: EXGET of records whose versions have 19
+/// digits, nearly all of them 9, so that their text takes longest to write.
+pub const LONG_VERSION: &str = "EXGET 19 digits";
+
 /// A row that stands apart, with a bar of its own: EXGET in a full table of keys
 /// that share a bucket of the library's index.
 pub const COLLIDING: &str = "colliding";
@@ -43,7 +47,8 @@ pub fn all(key: Key) -> Vec<Row> {
     let sizes = |name| SIZES.into_iter().filter(move |size| name != "equal keys" || *size > 1);
     let key_of = |name| if name == "24-byte keys" { long } else { key };
     let rows = |name| sizes(name).map(move |size| row(name, size, &key_of(name)));
-    NAMES.into_iter().chain(FIELDS).flat_map(rows).chain([colliding()]).collect()
+    let sized = NAMES.into_iter().chain(FIELDS).chain([LONG_VERSION]);
+    sized.flat_map(rows).chain([colliding()]).collect()
 }
 
 fn colliding() -> Row {
@@ -52,8 +57,7 @@ fn colliding() -> Row {
 }
 
 fn row(name: &'static str, records: usize, key: &dyn Fn(usize) -> String) -> Row {
-    let mut table: Vec<u8> =
-        (0..records).flat_map(|slot| record(&key(slot), &value(name, slot), slot)).collect();
+    let mut table: Vec<u8> = (0..records).flat_map(|slot| record(name, &key(slot), slot)).collect();
     let last = RECORD * (records - 1);
     let middle = RECORD * (records / 2);
     match name {
@@ -78,14 +82,17 @@ fn value(name: &str, slot: usize) -> String {
     }
 }
 
-fn version(slot: usize) -> usize {
-    1000 + slot
+fn version(name: &str, slot: usize) -> u64 {
+    match name {
+        LONG_VERSION => 8_999_999_999_999_999_999 - slot as u64,
+        _ => 1000 + slot as u64,
+    }
 }
 
 /// A live record; every fourth has an expiry.
-fn record(key: &str, value: &str, slot: usize) -> Record {
+fn record(name: &str, key: &str, slot: usize) -> Record {
     let expiry = if slot % 4 == 1 { TIME + 1_000_000 } else { 0 };
-    let version = version(slot) as u64;
+    let (value, version) = (value(name, slot), version(name, slot));
     Fields { key: key.into(), value: value.into(), flags: 7, version, expiry }.record()
 }
 
@@ -99,8 +106,8 @@ fn command(
     let slot = (at * 7 + 3) * records / COMMANDS % records;
     let there = &key(slot);
     let elsewhere = || key(1000 + at);
-    let now = &version(slot).to_string();
-    let before = &(version(slot) - 1).to_string();
+    let now = &version(name, slot).to_string();
+    let before = &(version(name, slot) - 1).to_string();
     let text = "v=3.1;t=20;s=ok";
     let bytes = match name {
         "EXGET miss" => encode(&["EXGET", &elsewhere()]),

@@ -42,7 +42,6 @@ expire-in-spec =
     (λ c. search needs)
     (λ c. search needs)
     (λ c κs. search needs)
-    (λ c. search needs)
     expiry-requires
     (λ c. let b = c .before .before .before in c .expire-unsaid .ensures (b .args .time) ∙ row b (c .before .enum-told .given .1))
     (λ c. row (c .before .before) (c .enum-told2 .given .1))

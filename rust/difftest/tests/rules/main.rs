@@ -4,6 +4,7 @@
 mod answers;
 mod bench_sheet;
 mod current_value;
+mod decimals;
 mod fields;
 mod overflows;
 mod rulings;
