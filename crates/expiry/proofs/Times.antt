@@ -1,4 +1,4 @@
--- Expiries in range: the number is from 1 on, and the product of its upper-product half says whether the sum can be at most the limit.
+-- Expiries in range: the number is from 1 on, and the product of its upper half says whether the sum can be at most the limit.
 use Prim.Native.Nat.{ℕ, _+_, _-_, _*_, _/_, _%_, _^_, _≤_, _<_}
 use native.Mathlib.Omega.{arith}
 use native.Mathlib.Nat.{mul-add, mul-left-comm, mul-le-mul-left, le-of-lt}

@@ -20,18 +20,17 @@ record Counting (n digits power : ℕ) : Type 0 where
   counted : digits ≤ length (natText n)
 
 module _ {n digits power : ℕ} (c : Counting n digits power) where
+  digits-suc : suc (digits - 1) ≡ digits
+  digits-suc = omega (arith, c .some)
+
   next-is : power * 10 ≡ 10 ^ digits
-  next-is =
-      let e : suc (digits - 1) ≡ digits = omega (arith, c .some) in
-      rw (c .is, ← pow-suc 10 (digits - 1), e)
+  next-is = rw (c .is, ← pow-suc 10 (digits - 1), digits-suc)
 
   next-fits : digits < 20 → power * 10 < 2 ^ 64
   next-fits h = omega (arith, next-is, pow-le-pow-right {n = 10} (omega arith) {i = digits} {j = 19} (omega (arith, h)))
 
   all : n < power * 10 → digits ≡ length (natText n)
-  all h =
-      let e : suc (digits - 1) ≡ digits = omega (arith, c .some) in
-      omega (arith, c .counted, e, length-natText (digits - 1) n (rw (e, ← next-is) h))
+  all h = omega (arith, c .counted, digits-suc, length-natText (digits - 1) n (rw (digits-suc, ← next-is) h))
 
   more : digits < 20 → power * 10 ≤ n → Counting n (digits + 1) (power * 10)
   more f h =
