@@ -2,9 +2,9 @@
  * Pietrunel: a small verified store for records with versions.
  *
  * A call takes a table, a time and one command in RESP2. It gives back a number, a reply and the
- * changed table. All bytes are borrowed for the call: the library keeps no state and no pointer,
- * allocates nothing and calls nothing but memcpy, memmove, memset and memcmp. Built for x86-64 it has
- * no divide instruction.
+ * changed table. All bytes are borrowed for the call, also those held of a command that arrives in
+ * pieces: the library keeps no state and no pointer, allocates nothing and calls nothing but memcpy,
+ * memmove, memset and memcmp. Built for x86-64 it has no divide instruction.
  *
  * Commands: EXSET, EXGET, EXSETVER, EXINCRBY, EXCAS, EXCAD, EXAPPEND, EXPREPEND, EXGAE, DEL and
  * BITFIELD. EXINCRBY with NONEGATIVE makes 0 of a sum below 0, however far below; after that it tests
@@ -23,10 +23,10 @@
  *
  * Threads: calls on different tables may run at the same time. Calls on one table must be ordered
  * by the caller, for example by a lock; pietrunel_current_value only reads, so calls of it on one
- * table may run together.
+ * table may run together. Calls of pietrunel_feed with one buffer of held bytes must be ordered too.
  *
  * Size on x86-64: a call takes less than 5 KiB of stack (measured: 4,280 bytes, and what memset takes),
- * the library less than 32 KiB of code and constants (measured: 28.7 KiB). bench/footprint measures
+ * the library less than 32 KiB of code and constants (measured: 30.7 KiB). bench/footprint measures
  * both: the stack by the frames along the deepest chain of calls in the machine code, the rest by
  * `size`.
  *
@@ -146,6 +146,55 @@ uint32_t pietrunel_call(uint8_t *table, size_t table_len, uint64_t time_ms,
 bool pietrunel_current_value(const uint8_t *table, size_t table_len, uint64_t time_ms,
                              const uint8_t *command, size_t command_len,
                              bool *in_command, size_t *start, size_t *len);
+
+/* What pietrunel_feed gives back while a command is not whole; pietrunel_call never does. */
+#define PIETRUNEL_MORE 100
+
+/*
+ * Takes a command that arrives in pieces: the next piece_len bytes of it, also none, also more than
+ * the command needs. Applies the command to the table once it is whole. The bytes of a command that is
+ * not whole yet are held in a buffer of the caller's, of 512 bytes or more: before the first call
+ * *held_len is 0, and between calls buffer and *held_len stay as they are. *taken tells how many bytes
+ * of the piece were taken; offer the others again, they begin the next command:
+ *
+ *   static uint8_t held[PIETRUNEL_MAX_COMMAND];
+ *   static size_t held_len = 0;
+ *   size_t taken;
+ *   while ((number = pietrunel_feed(held, sizeof held, &held_len, piece, piece_len, &taken, table,
+ *                                   sizeof table, time_ms, reply, sizeof reply, &reply_len))
+ *          != PIETRUNEL_MORE) {
+ *       send(number, reply, reply_len);
+ *       piece += taken;
+ *       piece_len -= taken;
+ *   }
+ *
+ * PIETRUNEL_MORE: the command is not whole yet. The whole piece is taken and stands behind what was
+ * held; *held_len has grown by piece_len, to at most 511. The other bytes of the buffer, the reply
+ * buffer and the table are untouched, and *reply_len is 0. Table, time and reply buffer are not looked
+ * at before the command is whole: they may be any until then, and others at each call.
+ *
+ * Any other number ends the command: *held_len is 0 then, and the next byte begins another.
+ *
+ * - The command is whole: number, reply, *reply_len and table are those of pietrunel_call with the
+ *   bytes that were held and those taken now. After numbers 1 to 3 too the command is gone and must be
+ *   sent again. Where bytes were held, the buffer holds the whole command from its start on, and its
+ *   bytes behind the command are untouched; where none were, all of the buffer is.
+ * - 4, with *taken above 0: the last byte taken is the first after which no whole command, of 1 to 16
+ *   words in at most 512 bytes, can follow: the 7 of "*17", or the last digit of "*1 CR LF $501". What
+ *   comes after it stays with the caller. This too does not depend on table, time and reply buffer.
+ *   *reply_len is 0; table, reply buffer and the buffer of held bytes are untouched.
+ * - 4, with *taken 0: the bytes held cannot have come from this call. They do not begin a command, or
+ *   are a whole one, or *held_len is above held_cap; or held_cap is below 512, and every call ends so
+ *   (the loop above would not end). An empty piece is refused too. All is untouched as in the case
+ *   before.
+ *
+ * *held_len, *taken and *reply_len are always written. No pointer may be null, not even where a length
+ * is 0. The piece must not overlap what is written, and what is written must not overlap.
+ */
+uint32_t pietrunel_feed(uint8_t *held, size_t held_cap, size_t *held_len,
+                        const uint8_t *piece, size_t piece_len, size_t *taken,
+                        uint8_t *table, size_t table_len, uint64_t time_ms,
+                        uint8_t *reply, size_t reply_cap, size_t *reply_len);
 
 /*
  * Begins a command of 1 to 16 words at the front of a buffer of cap bytes, and gives back its length,

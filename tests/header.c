@@ -29,7 +29,7 @@
     || PIETRUNEL_MIN_ABOVE_MAX != 11 || PIETRUNEL_STALE_VERSION != 12 \
     || PIETRUNEL_STORED_NOT_A_NUMBER != 13 || PIETRUNEL_SUM_OUT_OF_RANGE != 14 \
     || PIETRUNEL_VERSION_AT_TOP != 15 || PIETRUNEL_JOINED_TOO_LONG != 16 \
-    || PIETRUNEL_TABLE_FULL != 17
+    || PIETRUNEL_TABLE_FULL != 17 || PIETRUNEL_MORE != 100
 #error "a number"
 #endif
 
@@ -39,6 +39,17 @@ static const uint64_t limits[2] = {PIETRUNEL_MAX_TIME, PIETRUNEL_MAX_VERSION};
 static uint8_t table[2 * PIETRUNEL_RECORD_SIZE];
 static uint8_t reply[PIETRUNEL_REPLY_ROOM];
 static const uint8_t command[] = {'*', '1', '\r', '\n', '$', '0', '\r', '\n', '\r', '\n'};
+static uint8_t held[PIETRUNEL_MAX_COMMAND];
+static size_t held_len = 0;
+
+/* Feeds so many bytes of the command, from a byte on; true if all are taken, with this number. */
+static bool feed(size_t from, size_t len, uint32_t number)
+{
+    size_t taken, reply_len;
+    uint32_t given = pietrunel_feed(held, sizeof held, &held_len, command + from, len, &taken,
+                                    table, sizeof table, 0, reply, sizeof reply, &reply_len);
+    return given == number && taken == len;
+}
 
 int main(void)
 {
@@ -50,7 +61,9 @@ int main(void)
                                    reply, sizeof reply, &reply_len);
     bool shown = pietrunel_current_value(table, sizeof table, 0, command, sizeof command,
                                          &in_command, &start, &len);
+    bool fed = feed(0, 4, PIETRUNEL_MORE) && feed(4, 6, PIETRUNEL_UNKNOWN_COMMAND);
     printf("%s %d.%d.%d\n", PIETRUNEL_VERSION, PIETRUNEL_VERSION_MAJOR, PIETRUNEL_VERSION_MINOR,
            PIETRUNEL_VERSION_PATCH);
-    return last == PIETRUNEL_UNKNOWN_COMMAND && late == PIETRUNEL_TIME_OUT_OF_RANGE && !shown ? 0 : 1;
+    bool right = last == PIETRUNEL_UNKNOWN_COMMAND && late == PIETRUNEL_TIME_OUT_OF_RANGE;
+    return right && !shown && fed ? 0 : 1;
 }

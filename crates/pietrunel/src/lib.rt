@@ -1,12 +1,18 @@
 // The library's functions for C: a slice crosses as a pointer and a length.
 use current::Shown;
+use feed::Progress;
 ghost use mathlib.Core.Path.{_≡_};
 ghost use Rattle.model.specs.Table.{form128};
 ghost use Rattle.model.specs.Build.{beginIn, addWordIn};
 ghost use Rattle.model.specs.Call.{call};
 ghost use Rattle.model.specs.CurrentValue.{currentValue};
 ghost use Rattle.store.specs.Called.{Called};
+ghost use Rattle.feed.specs.Feeds.{inputs};
 ghost use Rattle.pietrunel.specs.Located.{Located};
+ghost use Rattle.pietrunel.specs.Reports.{Reports};
+
+// Given back where a command is not whole yet; no call of the store gives this number.
+const MORE: u32 = 100;
 
 // Applies one command to a table: document 01's number, the reply's length, the reply and the changed table.
 #[no_mangle]
@@ -78,4 +84,35 @@ pub extern "C" fn pietrunel_add_word(command: &mut [u8], len: usize, word: &[u8]
     ensures { λ r. ⌜ addWordIn (now (command .entry)) len (now (word .entry)) ≡ (now (command .exit), r) ⌝ }
 {
     build::add_word(command, len, word)
+}
+
+// Takes a piece of a command, behind the first `held` bytes of an assembler; a command that it makes whole is applied to a table.
+#[no_mangle]
+pub extern "C" fn pietrunel_feed(
+    bytes: &mut [u8],
+    held: &mut usize,
+    piece: &[u8],
+    taken: &mut usize,
+    table: &mut [u8],
+    time: u64,
+    reply: &mut [u8],
+    used: &mut usize,
+) -> u32
+    ensures { λ r. ⌜ Reports (call form128) (now (bytes .entry)) (now (held .entry)) (inputs (now (piece .entry)) (now (table .entry)) time (now (reply .entry))) r (now (taken .exit)) (now (held .exit)) (now (used .exit)) (now (bytes .exit)) (now (table .exit)) (now (reply .exit)) ⌝ }
+{
+    let before = *held;
+    match feed::feed(bytes, before, piece, table, time, reply) {
+        Progress::More(count) => {
+            *held = count;
+            *taken = piece.len();
+            *used = 0;
+            MORE
+        }
+        Progress::Answered(count, told) => {
+            *held = 0;
+            *taken = count;
+            *used = told.len;
+            told.number
+        }
+    }
 }

@@ -4,48 +4,35 @@ use crate::creation::init;
 use crate::listing::list;
 use crate::notice::Clock;
 use crate::notice::refuse;
-use crate::notice::refuse_call;
+use crate::notice::refuse_malformed;
 use crate::notice::refuse_word;
 use crate::serve::serve;
+use crate::session::serve_input;
 use commandline::Line;
 use commandline::ROOM;
 use commandline::compose;
 use commandline::number_at;
 use commandline::path_at;
 use commandline::records_at;
-use libc::STDIN_FILENO;
 use number::Natural;
-use status::REFUSED;
-use tablefile::Loaded;
-use tablefile::read_whole;
 
 // The longest path: the new file's name has 21 bytes, and C takes 4,095.
 const LONGEST: usize = 4074;
 
 // Applies the first n bytes of a buffer as a command.
-fn send(path: &[u8], clock: Clock, buffer: &[u8; ROOM], n: usize, raw: bool) -> u64 {
+fn send(path: &[u8], clock: Clock, buffer: &[u8; ROOM], n: usize) -> u64 {
     let command: &[u8] = buffer;
     if n <= command.len() {
-        return serve(path, clock, &command[0..n], raw);
+        return serve(path, clock, &command[0..n], false);
     }
-    refuse_call(4, path)
-}
-
-// Applies the command on standard input.
-fn send_input(path: &[u8], clock: Clock) -> u64 {
-    let mut command = [0u8; ROOM];
-    let loaded = read_whole(STDIN_FILENO, b"standard input", &mut command);
-    let Loaded::Bytes(n) = loaded else {
-        return REFUSED;
-    };
-    send(path, clock, &command, n, true)
+    refuse_malformed()
 }
 
 // Applies the command of the words from `first` on.
 fn send_words(path: &[u8], clock: Clock, first: usize, count: usize) -> u64 {
     let mut command = [0u8; ROOM];
     let n = compose(first, count, &mut command);
-    send(path, clock, &command, n, false)
+    send(path, clock, &command, n)
 }
 
 // Makes a new table.
@@ -71,7 +58,7 @@ fn run_by(line: Line, count: usize, path: &[u8], clock: Clock) -> u64 {
     if line.words < count {
         return send_words(path, clock, line.words, count);
     }
-    send_input(path, clock)
+    serve_input(path, clock)
 }
 
 // Does the job with the table at a path.

@@ -1,5 +1,5 @@
 // The keeper, which the script runs beside this program. It is told a line on one descriptor and answers on another: `lock` waits for the
-// table's lock and is answered by a grant, `free` lets go of the lock, and `status` tells the exit status.
+// table's lock and is answered by a grant, `free` lets go of the lock and is answered when it is free, and `status` tells the exit status.
 use crate::notice::refuse;
 use number::Natural;
 use tablefile::Rights;
@@ -89,11 +89,15 @@ pub fn ask(kept: bool) -> Asked {
     grant_first(&answer, n)
 }
 
-// Lets go of the table's lock.
-pub fn let_go(kept: bool) {
-    if kept {
-        io::write_all(TOLD, b"free\n");
+// Lets go of the table's lock, and waits until it is free, so that whoever has seen the reply finds it so. Gives back whether it is: where the
+// keeper has ended, the lock lasts as long as this program.
+pub fn let_go(kept: bool) -> bool {
+    if !kept {
+        return true;
     }
+    io::write_all(TOLD, b"free\n");
+    let mut answer = [0u8; ANSWER];
+    io::read_full(ANSWERS, &mut answer) == ANSWER
 }
 
 // Tells the exit status.

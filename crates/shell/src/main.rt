@@ -8,6 +8,7 @@ mod keeper;
 mod listing;
 mod notice;
 mod serve;
+mod session;
 
 use commandline::read_line;
 

@@ -63,6 +63,11 @@ pub fn refuse_word(place: usize, why: &[u8]) -> u64 {
     REFUSED
 }
 
+// Says that bytes are no command.
+pub fn refuse_malformed() -> u64 {
+    refuse(b"not a command: it has 1 to 16 words in at most 512 bytes of RESP2")
+}
+
 // Says what a refusal that has no reply stands for.
 pub fn refuse_call(number: u32, path: &[u8]) -> u64 {
     if number == 1 {
@@ -75,7 +80,7 @@ pub fn refuse_call(number: u32, path: &[u8]) -> u64 {
         return refuse(b"the time is above 2^62");
     }
     if number == 4 {
-        return refuse(b"not a command: it has 1 to 16 words in at most 512 bytes of RESP2");
+        return refuse_malformed();
     }
     refuse(b"the reply has no room")
 }

@@ -10,6 +10,7 @@ use crate::notice::refuse_call;
 use crate::notice::tell_unwritten;
 use crate::notice::time_by;
 use reply::Answer;
+use status::LOST;
 use status::REFUSED;
 use status::status_of;
 use status::status_told;
@@ -142,7 +143,7 @@ fn show(answer: Answer, changed: bool, buffer: &[u8; 128], raw: bool, path: &[u8
 }
 
 // Applies a command to a table's file, prints the reply and gives back the exit status. The lock is let go before the reply is written, which
-// may take as long as its reader likes.
+// may take as long as its reader likes. Where it cannot be let go no command may follow, so that it ends with this program.
 pub fn serve(path: &[u8], clock: Clock, command: &[u8], raw: bool) -> u64 {
     let Asked::Granted(grant) = ask(true) else {
         return REFUSED;
@@ -150,10 +151,14 @@ pub fn serve(path: &[u8], clock: Clock, command: &[u8], raw: bool) -> u64 {
     let mut reply = [0u8; 128];
     let time = time_by(clock, grant.time);
     let tried = serve_alone(grant, path, time, command, &mut reply);
-    let_go(true);
+    let freed = let_go(true);
     let Tried::Done(done, _) = tried else {
         return REFUSED;
     };
     let answer = done.answer;
-    show(answer, done.write, &reply, raw, path)
+    let status = show(answer, done.write, &reply, raw, path);
+    if !freed {
+        return LOST;
+    }
+    status
 }

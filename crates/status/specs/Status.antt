@@ -18,6 +18,14 @@ statusOf n = cond (eqb n 0) 0 (cond (leb 5 n && leb n 17) 1 2)
 abbrev pub toldStatus : (written changed : Bool) → ℕ → ℕ
 toldStatus written changed n = cond written (statusOf n) (cond changed 3 2)
 
+-- of a stream of commands: the highest of theirs, where those before the next one came to `before`
+abbrev pub statusAfter : (before next : ℕ) → ℕ
+statusAfter before next = cond (leb before next) next before
+
+-- whether a stream goes on after a command with a status: each command so far has its reply
+abbrev pub openAfter : ℕ → Bool
+openAfter status = leb status 1
+
 -- of two tables, each good or not, told in `len` bytes: 0 where they hold the same, 1 where they differ, 2 where one is no good table
 abbrev pub statusBetween : (first second : Bool) (len : ℕ) → ℕ
 statusBetween first second len = cond (first && second) (cond (eqb len 0) 0 1) 2

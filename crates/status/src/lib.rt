@@ -1,6 +1,6 @@
 // What an answer, or a comparison of two tables, comes to at the command line: whether the table's file is written, and the exit status.
 ghost use mathlib.Core.Path.{_≡_};
-ghost use Rattle.status.specs.Status.{toWrite, statusOf, toldStatus, statusBetween};
+ghost use Rattle.status.specs.Status.{toWrite, statusOf, toldStatus, statusAfter, openAfter, statusBetween};
 
 // Answered.
 pub const DONE: u64 = 0;
@@ -16,6 +16,9 @@ pub const REFUSED: u64 = 2;
 
 // The table did change, and the reply could not be written.
 pub const UNTOLD: u64 = 3;
+
+// The keeper of the table's lock has ended.
+pub const LOST: u64 = 70;
 
 // The exit status of an answer by its number.
 pub fn status_of(number: u32) -> u64
@@ -42,6 +45,23 @@ pub fn status_told(written: bool, changed: bool, number: u32) -> u64
         return UNTOLD;
     }
     REFUSED
+}
+
+// The exit status of a stream of commands: the highest of theirs. `before` is that of the commands before the next one.
+pub fn status_after(before: u64, next: u64) -> u64
+    ensures { λ r. ⌜ r ≡ statusAfter before next ⌝ }
+{
+    if before <= next {
+        return next;
+    }
+    before
+}
+
+// Whether a stream goes on after a command with an exit status: not where a reply is missing, since its reader would count the later ones wrongly.
+pub fn is_open_after(status: u64) -> bool
+    ensures { λ r. ⌜ r ≡ openAfter status ⌝ }
+{
+    status <= ERROR
 }
 
 // The exit status of a comparison of two tables, each good or not, told in `len` bytes: 0 where they hold the same, 1 where they differ, 2 where

@@ -8,7 +8,6 @@ pub use name::folder;
 pub use name::put_new_name;
 pub use reading::fetch;
 pub use reading::load;
-pub use reading::read_whole;
 pub use reading::tell;
 pub use replacing::replace;
 

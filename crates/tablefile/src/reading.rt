@@ -23,7 +23,7 @@ fn read_to_end(fd: i32, buf: &mut [u8]) -> Loaded {
 }
 
 // Reads a descriptor to its end, or until the buffer is full.
-pub fn read_whole(fd: i32, path: &[u8], buf: &mut [u8]) -> Loaded {
+fn read_whole(fd: i32, path: &[u8], buf: &mut [u8]) -> Loaded {
     let Loaded::Bytes(n) = read_to_end(fd, buf) else {
         tell(path);
         return Loaded::Failed;

@@ -4,8 +4,9 @@
 //! `case` makes one call's table, time, command and reply buffer, `bitfield_case`
 //! those of a BITFIELD. `compare` runs it on two stores; `expect` and `bitfield`
 //! hold the outcome to plain rules. `history` makes whole lists of calls on one
-//! record and checks their answers against a serial execution. `pairs` makes the
-//! files of two tables.
+//! record and checks their answers against a serial execution. `streams` makes
+//! commands in pieces, and `feed` takes one piece. `pairs` makes the files of two
+//! tables.
 
 #![forbid(unsafe_code)]
 
@@ -18,6 +19,7 @@ pub mod bitfield;
 pub mod collisions;
 pub mod compare;
 pub mod expect;
+pub mod feed;
 pub mod fields;
 pub mod hex;
 pub mod history;
@@ -28,6 +30,7 @@ pub mod printed;
 pub mod resp;
 pub mod rng;
 pub mod settings;
+pub mod streams;
 
 pub use commands::bitfield_words;
 pub use reference::Answer;

@@ -23,6 +23,21 @@ extern "C" {
         len: *mut usize,
     ) -> bool;
 
+    fn pietrunel_feed(
+        held: *mut u8,
+        held_cap: usize,
+        held_len: *mut usize,
+        piece: *const u8,
+        piece_len: usize,
+        taken: *mut usize,
+        table: *mut u8,
+        table_len: usize,
+        time_ms: u64,
+        reply: *mut u8,
+        reply_cap: usize,
+        reply_len: *mut usize,
+    ) -> u32;
+
     fn pietrunel_begin_command(command: *mut u8, cap: usize, words: usize) -> usize;
 
     fn pietrunel_add_word(
@@ -86,6 +101,38 @@ pub fn current_value(table: &[u8], time_ms: u64, command: &[u8]) -> Option<Shown
     }
     assert_eq!(shown, Shown { in_command: false, start: 0, len: 0 }, "nothing is shown");
     None
+}
+
+/// The number, how many bytes of the piece were taken, and the reply's length.
+pub fn feed(
+    held: &mut [u8],
+    held_len: &mut usize,
+    piece: &[u8],
+    table: &mut [u8],
+    time_ms: u64,
+    reply: &mut [u8],
+) -> (u32, usize, usize) {
+    let (mut taken, mut len) = (usize::MAX, usize::MAX);
+    // SAFETY: each pointer comes from a slice with the length beside it, from `held_len`, or from
+    // `taken` or `len`, and the mutable ones are borrowed alone. The library is proved to read and
+    // write only there, whatever `held_len` is; it keeps no pointer.
+    let number = unsafe {
+        pietrunel_feed(
+            held.as_mut_ptr(),
+            held.len(),
+            held_len,
+            piece.as_ptr(),
+            piece.len(),
+            &mut taken,
+            table.as_mut_ptr(),
+            table.len(),
+            time_ms,
+            reply.as_mut_ptr(),
+            reply.len(),
+            &mut len,
+        )
+    };
+    (number, taken, len)
 }
 
 /// Begins a command of so many words; its length, or 0 where it is refused.

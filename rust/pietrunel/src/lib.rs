@@ -42,6 +42,8 @@
 //! let set = b"*3\r\n$5\r\nEXSET\r\n$3\r\nfoo\r\n$3\r\n100\r\n";
 //! assert_eq!(call(&mut table, 1000, set, &mut reply), Answer::Reply(b"+OK\r\n"));
 //! ```
+//!
+//! An [`Assembler`] takes commands off a line that hands them over a few bytes at a time.
 
 #![no_std]
 #![deny(unsafe_code)]
@@ -50,6 +52,7 @@
 extern crate std;
 
 mod answer;
+mod assembler;
 mod command;
 mod decimal;
 mod error;
@@ -62,6 +65,7 @@ mod reply;
 mod resp;
 
 pub use answer::Answer;
+pub use assembler::{Assembler, Progress};
 pub use command::{Command, CommandTooLong, Encoded};
 pub use error::Error;
 pub use fields::Fields;
@@ -103,6 +107,29 @@ pub const MAX_VERSION: u64 = (1 << 63) - 1;
 pub fn call<'r>(table: &mut [u8], time_ms: u64, command: &[u8], reply: &'r mut [u8]) -> Answer<'r> {
     let (number, len) = ffi::call(table, time_ms, command, reply);
     Answer::new(number, &reply[..len])
+}
+
+/// Takes the next bytes of a command, which are held in a buffer until it is whole, and then applies
+/// it. An [`Assembler`] has such a buffer inside.
+///
+/// The first `held_len` bytes of `held`, none at first, are those of the calls before; `held` has at
+/// least 512 bytes. Table, time and reply buffer are looked at only once the command is whole. The
+/// answer is then that of [`call`] to the whole command, and after a rejection too the command is gone
+/// and must be sent again.
+///
+/// A command is malformed at the first byte after which none can follow, and that byte is the last
+/// one taken. Where the bytes held do not begin a command, or `held` is shorter than 512 bytes,
+/// nothing of the piece is taken, and the answer is [`Rejection::MalformedCommand`] too.
+pub fn feed<'r>(
+    held: &mut [u8],
+    held_len: &mut usize,
+    piece: &[u8],
+    table: &mut [u8],
+    time_ms: u64,
+    reply: &'r mut [u8],
+) -> Progress<'r> {
+    let (number, taken, len) = ffi::feed(held, held_len, piece, table, time_ms, reply);
+    Progress::new(number, piece.len(), taken, &reply[..len])
 }
 
 /// The value that stands at the key after an EXGET or EXCAS: a part of the command where the

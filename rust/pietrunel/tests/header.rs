@@ -1,6 +1,6 @@
 //! The crate's limits and numbers are those of the C header.
 
-use pietrunel::{Error, Rejection};
+use pietrunel::{Error, Progress, Rejection};
 
 const HEADER: &str = include_str!("../../../include/pietrunel.h");
 
@@ -71,4 +71,5 @@ fn numbers() {
     for (name, number) in rejections.into_iter().chain(errors) {
         assert_eq!(defined(&name), u64::from(number), "{name}");
     }
+    assert_eq!(defined("MORE"), u64::from(Progress::More.number()));
 }

@@ -14,6 +14,7 @@ mod command;
 mod current_value;
 mod difference;
 mod execute;
+mod feed;
 mod gate;
 mod number;
 mod options;
@@ -25,6 +26,7 @@ mod table;
 
 pub use current_value::{current_value, Shown};
 pub use difference::difference;
+pub use feed::{feed, Fed, MORE};
 
 use execute::{execute, Effect};
 use gate::gate;

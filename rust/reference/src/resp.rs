@@ -3,10 +3,10 @@
 use crate::number::read_version;
 
 /// The longest command.
-const COMMAND_LIMIT: usize = 512;
+pub const COMMAND_LIMIT: usize = 512;
 
 /// The most words of a command.
-const WORD_LIMIT: usize = 16;
+pub const WORD_LIMIT: usize = 16;
 
 /// The words of a command: 1 to 16 bulk strings, and nothing after the last.
 pub fn decode(command: &[u8]) -> Option<Vec<&[u8]>> {

@@ -1,0 +1,10 @@
+pub mod Rows
+pub mod Walk
+pub mod Viable
+pub mod Feeding
+pub mod Pieces
+pub mod Streams
+pub mod WholeCalls
+pub mod Wrong
+pub mod Steps
+pub mod Assemblers
