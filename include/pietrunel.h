@@ -21,14 +21,19 @@
  * without one a sum wraps. The version rises by one if a SET or INCRBY wrote, flags and expiry stay;
  * else the table is untouched. An absent key is an empty value.
  *
- * Threads: calls on different tables may run at the same time. Calls on one table must be ordered
- * by the caller, for example by a lock; pietrunel_current_value only reads, so calls of it on one
- * table may run together. Calls of pietrunel_feed with one buffer of held bytes must be ordered too.
+ * Two parties, the owner and the installer, can share a table: pietrunel_shared_call works on the
+ * caller's part of it, as on a table of its own.
  *
- * Size on x86-64: a call takes less than 5 KiB of stack (measured: 4,280 bytes, and what memset takes),
- * the library less than 32 KiB of code and constants (measured: 30.7 KiB). bench/footprint measures
- * both: the stack by the frames along the deepest chain of calls in the machine code, the rest by
- * `size`.
+ * Threads: calls on different tables may run at the same time. Calls on one table must be ordered
+ * by the caller, for example by a lock; also calls of two parties that share it, since each call reads
+ * both parts. pietrunel_current_value and pietrunel_shared_current_value only read, so calls of these
+ * two on one table may run together. Calls of pietrunel_feed with one buffer of held bytes must be
+ * ordered too.
+ *
+ * Size on x86-64: a call takes less than 5 KiB of stack (measured: 4,280 bytes, a shared one 4,624, and
+ * what memset takes), the library less than 34 KiB of code and constants (measured: 32.5 KiB).
+ * bench/footprint measures both: the stack by the frames along the deepest chain of calls in the
+ * machine code, the rest by `size`.
  *
  * Build the library with `rt staticlib pietrunel`, and link target/staticlib/libpietrunel.a.
  */
@@ -65,8 +70,9 @@ extern "C" {
  *   48 to 111    value, then zeros
  *   112 to 127   zeros
  *
- * An empty record is 128 zeros. No two records in use have equal keys, expired ones counted. A
- * record is live if its expiry is 0 or greater than the time of the call; others count as absent.
+ * An empty record is 128 zeros. No two records in use have equal keys, expired ones counted: of the
+ * whole table, or in a shared call no two of one part. A record is live if its expiry is 0 or greater
+ * than the time of the call; others count as absent.
  */
 #define PIETRUNEL_RECORD_SIZE 128
 #define PIETRUNEL_MAX_RECORDS 256
@@ -91,8 +97,9 @@ extern "C" {
 #define PIETRUNEL_AT_VALUE 48
 
 /*
- * The numbers that pietrunel_call gives back. The first test that fails decides, in this order, but
- * that BITFIELD tests 16 before 15. Numbers above 17, of later libraries, act as 1 to 4 do.
+ * The numbers that a call gives back. The first test that fails decides, in this order, but that 18
+ * is tested within 1, before equal keys, and that BITFIELD tests 16 before 15. Numbers above 18, of
+ * later libraries, act as 1 to 4 do.
  */
 #define PIETRUNEL_ANSWERED 0 /* the command was carried out; also nil, 0, -1 and a stale EXCAS */
 
@@ -101,6 +108,7 @@ extern "C" {
 #define PIETRUNEL_TIME_OUT_OF_RANGE 2  /* above 2^62 */
 #define PIETRUNEL_SHORT_REPLY_BUFFER 3 /* under 128 bytes */
 #define PIETRUNEL_MALFORMED_COMMAND 4  /* no array of 1 to 16 bulk strings in at most 512 bytes */
+#define PIETRUNEL_BAD_BOUNDARY 18      /* 0, or not below the number of records; shared calls only */
 
 /* An error reply, "-ERR ... CR LF": the table is untouched. */
 #define PIETRUNEL_UNKNOWN_COMMAND 5
@@ -115,14 +123,15 @@ extern "C" {
 #define PIETRUNEL_SUM_OUT_OF_RANGE 14    /* outside 64 signed bits, MIN or MAX, after NONEGATIVE */
 #define PIETRUNEL_VERSION_AT_TOP 15      /* it would rise above 2^63 - 1 */
 #define PIETRUNEL_JOINED_TOO_LONG 16     /* joined to over 64 bytes, or a field past bit 511 written */
-#define PIETRUNEL_TABLE_FULL 17          /* no record is free */
+#define PIETRUNEL_TABLE_FULL 17          /* no record is free, of the caller's part in a shared call */
 
 /*
  * Applies one command to a table at a time in milliseconds; gives back one of the numbers above.
  *
  * For 0 the table may have one record changed, and reply[0 .. *reply_len) holds the reply in RESP2.
  * For every other number the table is untouched. *reply_len is always written: 0 for 1 to 4, at
- * most 128 for others. Bytes of the reply buffer past *reply_len are always untouched.
+ * most 128 for others. Bytes of the reply buffer past *reply_len are always untouched. 18 does not
+ * arise here.
  *
  * Table, command and reply buffer are borrowed. They may hold any bytes and have any length, and
  * the time may be any: the call ends with its answer. No pointer may be null, not even where a
@@ -147,7 +156,51 @@ bool pietrunel_current_value(const uint8_t *table, size_t table_len, uint64_t ti
                              const uint8_t *command, size_t command_len,
                              bool *in_command, size_t *start, size_t *len);
 
-/* What pietrunel_feed gives back while a command is not whole; pietrunel_call never does. */
+/*
+ * The party of a shared call. The boundary counts records: the owner has the records below it, the
+ * installer the rest.
+ */
+#define PIETRUNEL_WHOLE 0 /* no party: the whole table, and the boundary is not looked at */
+#define PIETRUNEL_OWNER 1
+#define PIETRUNEL_INSTALLER 2
+
+/*
+ * Applies one command to a party's part of a table that is shared at a boundary. The command looks for
+ * its key and takes a record only there. So both parties may use the same key, and number 17 may
+ * arise while the other part has a free record. Every byte of the other part stays as it is.
+ *
+ * The tests come in this order, whichever party calls:
+ *
+ *   1    the length of the whole table, and each record in either part
+ *   18   the boundary is 0, or not below the number of records; so a table of one record has no good
+ *        boundary
+ *   1    equal keys within a part, in either of the two
+ *   2, 3, 4, and then those of the command, on the caller's part
+ *
+ * 18 acts as 1 to 4 do. All else is as in pietrunel_call. With PIETRUNEL_WHOLE it is that call; any
+ * number that is no party gives 1, with *reply_len 0 and table and reply buffer untouched.
+ *
+ * The boundary is not stored: the parties agree on one and bring it to every call. Once an equal key
+ * stands in both parts, calls on the whole table refuse it by 1, those of pietrunel_feed too, and
+ * pietrunel_current_value shows no value.
+ */
+uint32_t pietrunel_shared_call(uint32_t party, size_t boundary,
+                               uint8_t *table, size_t table_len, uint64_t time_ms,
+                               const uint8_t *command, size_t command_len,
+                               uint8_t *reply, size_t reply_cap, size_t *reply_len);
+
+/*
+ * Tells where the value stands that the key of a party's EXGET or EXCAS has after it, and changes
+ * nothing. It is as pietrunel_current_value, but the key is looked for in the party's part alone, and
+ * no value is shown for whatever pietrunel_shared_call would refuse, a short reply buffer aside.
+ * *start is counted from the start of the command or of the whole table, also for the installer.
+ */
+bool pietrunel_shared_current_value(uint32_t party, size_t boundary,
+                                    const uint8_t *table, size_t table_len, uint64_t time_ms,
+                                    const uint8_t *command, size_t command_len,
+                                    bool *in_command, size_t *start, size_t *len);
+
+/* What pietrunel_feed gives back while a command is not whole; no other call does. */
 #define PIETRUNEL_MORE 100
 
 /*

@@ -29,8 +29,12 @@
     || PIETRUNEL_MIN_ABOVE_MAX != 11 || PIETRUNEL_STALE_VERSION != 12 \
     || PIETRUNEL_STORED_NOT_A_NUMBER != 13 || PIETRUNEL_SUM_OUT_OF_RANGE != 14 \
     || PIETRUNEL_VERSION_AT_TOP != 15 || PIETRUNEL_JOINED_TOO_LONG != 16 \
-    || PIETRUNEL_TABLE_FULL != 17 || PIETRUNEL_MORE != 100
+    || PIETRUNEL_TABLE_FULL != 17 || PIETRUNEL_BAD_BOUNDARY != 18 || PIETRUNEL_MORE != 100
 #error "a number"
+#endif
+
+#if PIETRUNEL_WHOLE != 0 || PIETRUNEL_OWNER != 1 || PIETRUNEL_INSTALLER != 2
+#error "a party"
 #endif
 
 /* Constants of 64 bits in an expression, where a cast would be warned of. */
@@ -51,6 +55,32 @@ static bool feed(size_t from, size_t len, uint32_t number)
     return given == number && taken == len;
 }
 
+/* The number of a party's call on two records shared at a boundary; UINT32_MAX if a value is shown, or
+ * if there is a reply with a number that has none. */
+static uint32_t shared(uint32_t party, size_t boundary)
+{
+    size_t reply_len, start = 1, len = 1;
+    bool in_command = true;
+    uint32_t number = pietrunel_shared_call(party, boundary, table, sizeof table, 0, command,
+                                            sizeof command, reply, sizeof reply, &reply_len);
+    bool shown = pietrunel_shared_current_value(party, boundary, table, sizeof table, 0, command,
+                                                sizeof command, &in_command, &start, &len);
+    bool replied = reply_len > 0, has_reply = number == PIETRUNEL_UNKNOWN_COMMAND;
+    return !shown && !in_command && start + len == 0 && replied == has_reply ? number : UINT32_MAX;
+}
+
+/* True if each party has its number, and any number that is none is refused. */
+static bool parties(void)
+{
+    return shared(PIETRUNEL_WHOLE, 0) == PIETRUNEL_UNKNOWN_COMMAND
+           && shared(PIETRUNEL_OWNER, 1) == PIETRUNEL_UNKNOWN_COMMAND
+           && shared(PIETRUNEL_INSTALLER, 1) == PIETRUNEL_UNKNOWN_COMMAND
+           && shared(PIETRUNEL_OWNER, 0) == PIETRUNEL_BAD_BOUNDARY
+           && shared(PIETRUNEL_INSTALLER, 2) == PIETRUNEL_BAD_BOUNDARY
+           && shared(3, 1) == PIETRUNEL_DAMAGED_TABLE
+           && shared(UINT32_MAX, 1) == PIETRUNEL_DAMAGED_TABLE;
+}
+
 int main(void)
 {
     size_t reply_len, start, len;
@@ -65,5 +95,5 @@ int main(void)
     printf("%s %d.%d.%d\n", PIETRUNEL_VERSION, PIETRUNEL_VERSION_MAJOR, PIETRUNEL_VERSION_MINOR,
            PIETRUNEL_VERSION_PATCH);
     bool right = last == PIETRUNEL_UNKNOWN_COMMAND && late == PIETRUNEL_TIME_OUT_OF_RANGE;
-    return right && !shown && fed ? 0 : 1;
+    return right && !shown && fed && parties() ? 0 : 1;
 }

@@ -9,7 +9,7 @@ use Rattle.model.specs.Optional.{only}
 use Rattle.model.specs.Number.{readVersion}
 use Rattle.model.specs.Command.{look}
 use Rattle.commandline.specs.declared.switch.Switch.{Switch}
-use Rattle.commandline.specs.declared.switch.Switch.the-variants.{Table, Time, Init, List as Listing, Check, Diff, Keeper, End, Unknown, Word}
+use Rattle.commandline.specs.declared.switch.Switch.the-variants.{Table, Time, Init, Owner, Installer, List as Listing, Check, Diff, Keeper, End, Unknown, Word}
 
 -- a word that begins with a minus is an option
 abbrev pub dashed : List ℕ → Bool
@@ -22,6 +22,8 @@ switches =
     (text "-t", Table)
     ∷ (text "--time", Time)
     ∷ (text "--init", Init)
+    ∷ (text "--owner", Owner)
+    ∷ (text "--installer", Installer)
     ∷ (text "--list", Listing)
     ∷ (text "--check", Check)
     ∷ (text "--diff", Diff)
@@ -42,6 +44,8 @@ abbrev pub takesValue : Switch → Bool
 takesValue Table = true
 takesValue Time = true
 takesValue Init = true
+takesValue Owner = true
+takesValue Installer = true
 takesValue Listing = false
 takesValue Check = false
 takesValue Diff = false

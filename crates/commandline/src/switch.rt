@@ -8,6 +8,8 @@ pub enum Switch {
     Table,
     Time,
     Init,
+    Owner,
+    Installer,
     List,
     Check,
     Diff,
@@ -39,6 +41,12 @@ fn spelled(w: &[u8]) -> Switch
     }
     if slice::same(w, b"--init") {
         return Switch::Init;
+    }
+    if slice::same(w, b"--owner") {
+        return Switch::Owner;
+    }
+    if slice::same(w, b"--installer") {
+        return Switch::Installer;
     }
     if slice::same(w, b"--list") {
         return Switch::List;
@@ -77,6 +85,8 @@ pub fn takes_value(s: Switch) -> bool
         Switch::Table => true,
         Switch::Time => true,
         Switch::Init => true,
+        Switch::Owner => true,
+        Switch::Installer => true,
         Switch::List => false,
         Switch::Check => false,
         Switch::Diff => false,

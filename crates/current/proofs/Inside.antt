@@ -9,11 +9,12 @@ use lib.Dec.{eqb}
 use Rattle.model.specs.Checked.{Checked, refuse, ok, _>>_}
 use Rattle.model.specs.Table.{form128, used}
 use Rattle.model.specs.Search.{Placed, Lookup, liveAt, expiredAt, absent, lookup}
+use Rattle.model.specs.Partition.{whole}
 use Rattle.model.specs.Gate.{Inputs, gate}
 use Rattle.model.specs.Command.{Command, Action, exset, exget, exsetver, exincrby, excas, excad, exjoin, exgae, del, bitfield}
 use Rattle.model.specs.Parse.{parse}
 use Rattle.model.specs.Execute.{Effect, executeOn}
-use Rattle.model.specs.CurrentValue.{Shown, inCommand, isInCommand, startOf, lengthOf, wordStart, valueOf, shownAfter, shownOn, showsBy, shows, orNothing, currentValue}
+use Rattle.model.specs.CurrentValue.{Shown, inCommand, isInCommand, startOf, lengthOf, wordStart, valueOf, shownAfter, shownOn, showsBy, shows, orNothing, currentValueIn, currentValue}
 use Rattle.model.proofs.Basics.{at-length}
 use Rattle.model.proofs.Words.{encode-decode}
 use Rattle.model.proofs.Records.{InRange, Kept}
@@ -72,11 +73,11 @@ module _ (t : List ℕ) (now : ℕ) (c : List ℕ) where
   settled (ok s) h = h
 
   pub inside : Inside (currentValue form128 t now c)
-  unfolding currentValue
+  unfolding currentValueIn
   inside =
-      settled (shows form128 t now c)
-      (by-step Any Inside (Through form128 t now 128 c) (gate form128 t now 128 c) _
-      (weaken Early Any (Through form128 t now 128 c) (gate form128 t now 128 c) (λ n e. tt) (gate-through form128 t now 128 c)) λ i g.
+      settled (shows form128 whole t now c)
+      (by-step Any Inside (Through form128 t now 128 c) (gate form128 whole t now 128 c) _
+      (weaken Early Any (Through form128 t now 128 c) (gate form128 whole t now 128 c) (λ n e. tt) (gate-through form128 t now 128 c)) λ i g.
       by-step Any Inside (Known form128 (i .words)) (parse form128 now (i .words)) _
       (weaken Parsing Any (Known form128 (i .words)) (parse form128 now (i .words)) (λ n e. tt) (parse-known form128 now (i .words))) λ cm known.
       shown-inside i g cm known)

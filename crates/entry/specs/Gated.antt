@@ -6,6 +6,7 @@ use mathlib.Core.List.{List}
 use lib.ListN.{length}
 use Rattle.model.specs.Checked.{Checked, refuse, ok, _>>=_}
 use Rattle.model.specs.Table.{form128, timeLimit}
+use Rattle.model.specs.Partition.{whole}
 use Rattle.model.specs.Gate.{Inputs, gate}
 use Rattle.model.specs.Parse.{wordAt, parse}
 use Rattle.table.specs.Slots.{Reads, slotsOf}
@@ -27,7 +28,7 @@ checkedEntry (Refused n) = refuse n
 
 -- the model's gate
 abbrev pub gateIn : Query → (t c : List ℕ) → Checked Inputs
-gateIn q t c = gate form128 t (q .time) (q .room) c
+gateIn q t c = gate form128 whole t (q .time) (q .room) c
 
 -- a call that passed the gate, with n words
 pub record Entered (q : Query) (t c places : List ℕ) (n : ℕ) : Type 0 where

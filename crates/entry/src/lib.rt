@@ -7,7 +7,7 @@ use resp::Count;
 ghost use mathlib.Core.Path.{_≡_};
 ghost use lib.ListN.{length};
 ghost use Rattle.model.specs.Table.{form128};
-ghost use Rattle.integrity.specs.Check.{Fresh};
+ghost use Rattle.integrity.specs.Check.{faultless, Fresh};
 ghost use Rattle.entry.specs.Gated.{Gates, Prepares};
 
 // The longest table for which the smaller arrays of the index do: 16 records.
@@ -103,4 +103,33 @@ pub fn prepare(
             Prepared::Ready(Ready { task, found, count })
         }
     }
+}
+
+// Whether a table passes the gate's first test, which is compiled in `prepare` alone: the time is one that the next test refuses. For a long
+// table `heads` is half as long as a call's, so that a call that tests another part too stays below 5 KiB of stack.
+pub fn passes(table: &[u8]) -> bool
+    ensures { λ ok. ⌜ ok ≡ faultless form128 (now (table .entry)) ⌝ }
+{
+    if table.len() <= SMALL {
+        let mut heads = [0; 128];
+        let mut next = [0; 16];
+        return passes_with(table, &mut heads, &mut next);
+    }
+    let mut heads = [0; 1024];
+    let mut next = [0; 256];
+    passes_with(table, &mut heads, &mut next)
+}
+
+// The same with arrays for the index of the table's keys.
+fn passes_with(table: &[u8], heads: &mut [u8], next: &mut [u8]) -> bool
+    requires { ⌜ Fresh form128 (now table) (now heads) (now next) ⌝ }
+    ensures { λ ok. ⌜ ok ≡ faultless form128 (now (table .entry)) ⌝ }
+{
+    let time = record::TIME_LIMIT + 1;
+    let query = Query { time, room: 0 };
+    let mut places = [0u16; 32];
+    let Prepared::Refused(number) = prepare(table, query, b"", &mut places, heads, next) else {
+        return false;
+    };
+    number != 1
 }

@@ -19,6 +19,7 @@ ghost use lib.ListN.{length};
 ghost use lib.Dec.{eqb};
 ghost use Rattle.model.specs.Table.{form128, readSlot};
 ghost use Rattle.model.specs.Optional.{isSome};
+ghost use Rattle.inspection.specs.Parts.{partStart};
 
 // The bytes of a record.
 const SIZE: usize = 128;
@@ -133,13 +134,23 @@ fn is_twin(r: &[u8], s: &[u8]) -> bool
     slice::same(&r[KEY_AT..VALUE_AT], &s[KEY_AT..VALUE_AT])
 }
 
-// The first slot before the given one that has an equal key, or that one.
-fn twin_of(table: &[u8], r: &[u8], slot: usize) -> usize
-    requires { ⌜ (length (now r) ≡ 128) ⌝ }
-    ensures { λ n. ⌜ n ≤ slot ⌝ }
+// The first slot of a slot's part, where the parts meet at a boundary. At 0 they are one.
+fn part_start(slot: usize, boundary: usize) -> usize
+    ensures { λ n. ⌜ (n ≤ slot) × (n ≡ partStart slot boundary) ⌝ }
+{
+    if slot < boundary {
+        return 0;
+    }
+    boundary
+}
+
+// The first slot from `start` on and before the given one that has an equal key, or that one.
+fn twin_of(table: &[u8], r: &[u8], start: usize, slot: usize) -> usize
+    requires { ⌜ (length (now r) ≡ 128) × (start ≤ slot) ⌝ }
+    ensures { λ n. ⌜ (start ≤ n) × (n ≤ slot) ⌝ }
 {
     let n = table.len() / SIZE;
-    let mut i = 0;
+    let mut i = start;
     while i < slot {
         if n <= i {
             return slot;
@@ -153,8 +164,8 @@ fn twin_of(table: &[u8], r: &[u8], slot: usize) -> usize
     slot
 }
 
-// Tells what is wrong with a slot, if anything is.
-fn tell_fault(table: &[u8], r: &[u8], slot: usize, path: &[u8])
+// Tells what is wrong with a slot, if anything is. A key is compared with those of the slot's part alone.
+fn tell_fault(table: &[u8], r: &[u8], slot: usize, boundary: usize, path: &[u8])
     requires { ⌜ (length (now r) ≡ 128) ⌝ }
 {
     let rule = fault_of(r);
@@ -166,7 +177,7 @@ fn tell_fault(table: &[u8], r: &[u8], slot: usize, path: &[u8])
     if r[USE_AT] != USED {
         return;
     }
-    let twin = twin_of(table, r, slot);
+    let twin = twin_of(table, r, part_start(slot, boundary), slot);
     if twin < slot {
         tell_slot(path, slot);
         complain(b"the key is that of slot ");
@@ -185,14 +196,14 @@ fn tell_length(len: usize, path: &[u8]) {
     }
 }
 
-// Tells all that is wrong with a table.
-pub fn tell_faults(table: &[u8], path: &[u8]) {
+// Tells all that is wrong with a table whose two parts meet at a boundary, counted in records; with 0 it is one part.
+pub fn tell_faults(table: &[u8], boundary: usize, path: &[u8]) {
     tell_length(table.len(), path);
     let n = table.len() / SIZE;
     let mut i = 0;
     while i < n {
         let from = i * SIZE;
-        tell_fault(table, &table[from..from + SIZE], i, path);
+        tell_fault(table, &table[from..from + SIZE], i, boundary, path);
         i += 1;
     }
 }

@@ -7,7 +7,7 @@ use terminal::add_natural;
 use terminal::add_quoted;
 use terminal::print_page;
 ghost use mathlib.Core.Path.{_≡_};
-ghost use Prim.Native.Nat.{_≤_};
+ghost use Prim.Native.Nat.{_≤_, _/_};
 ghost use lib.ListN.{length};
 ghost use Rattle.record.specs.Record.{InUse};
 
@@ -93,15 +93,17 @@ fn list_slot(r: &[u8], slot: usize, time: u64, shown: bool) -> usize
     1
 }
 
-// Prints the records in use of a table where they are asked for, and how many there are; gives back whether the last line was written.
-pub fn list_records(table: &[u8], time: u64, shown: bool) -> bool {
-    let n = table.len() / SIZE;
+// Prints the records in use of the slots from `first` up to, not including, `end` where they are asked for, and how many of those slots hold one;
+// gives back whether the last line was written.
+pub fn list_records(table: &[u8], first: usize, end: usize, time: u64, shown: bool) -> bool
+    requires { ⌜ (first ≤ end) × (end ≤ length (now table) / 128) ⌝ }
+{
     let mut used: usize = 0;
-    let mut i = 0;
-    while i < n {
+    let mut i = first;
+    while i < end {
         let from = i * SIZE;
         used += list_slot(&table[from..from + SIZE], i, time, shown);
         i += 1;
     }
-    print_count(used, n)
+    print_count(used, end - first)
 }

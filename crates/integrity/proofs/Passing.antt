@@ -50,9 +50,13 @@ module _ (f : Form) (t : List ℕ) where
   abbrev IsRead : ℕ → Type 0
   IsRead i = isSome (readSlot f (recordAt f i t)) ≡ true
 
-  -- the slots from i on are records, the index holds them and no others, and their keys are distinct
+  -- the slots from i on are records
+  abbrev pub ReadFrom : ℕ → Type 0
+  ReadFrom i = (j : ℕ) → i ≤ j → j < countOf f t → IsRead j
+
+  -- and the index holds them and no others, and their keys are distinct
   pub record Passed (heads next : List ℕ) (i : ℕ) : Type 0 where
-    pub slots : (j : ℕ) → i ≤ j → j < countOf f t → IsRead j
+    pub slots : ReadFrom i
     pub index : Indexed f t i heads next
     pub blank : (j : ℕ) → j < i → getD next j 0 ≡ 0
     pub keys : Reads f t → distinct (drop i (slotsOf f t)) ≡ true
@@ -66,7 +70,18 @@ module _ (f : Form) (t : List ℕ) where
     keys = λ ok. let all : length (slotsOf f t) ≤ countOf f t = omega (arith, count-is f t ok) in rw (drop-of-length-le (slotsOf f t) all);
   }
 
+  pub read-more : (i : ℕ) → IsRead i → ReadFrom (i + 1) → ReadFrom i
+  read-more i read more j low high = go (eqb j i) refl
+    where
+      go : (b : Bool) → eqb j i ≡ b → IsRead j
+      go true e = subst IsRead (sym (eqb-true j i e)) read
+      go false e = more j (omega (arith, eqb-false j i e)) high
+
   -- ---- a table that breaks a rule
+
+  -- a table whose length breaks the rules does not read
+  pub wrong-length : all (sizeRules f t) ≡ false → isSome (readTable f t) ≡ false
+  wrong-length e = read-table f t ∙ rw e
 
   faulty : (Reads f t → distinct (slotsOf f t) ≡ false) → faultless f t ≡ false
   faulty h = go (isSome (readTable f t)) refl
@@ -76,7 +91,7 @@ module _ (f : Form) (t : List ℕ) where
       go false e = refl
 
   pub wrong-size : all (sizeRules f t) ≡ false → faultless f t ≡ false
-  wrong-size e = faulty (λ ok. never false (sym (read-table f t ∙ rw e) ∙ ok) refl)
+  wrong-size e = faulty (λ ok. never false (sym (wrong-length e) ∙ ok) refl)
 
   -- ---- one slot more
 
@@ -84,19 +99,22 @@ module _ (f : Form) (t : List ℕ) where
     within : Reads f t → i < length (slotsOf f t)
     within ok = omega (arith, count-is f t ok)
 
+    pub unread : isSome (readSlot f (recordAt f i t)) ≡ false → isSome (readTable f t) ≡ false
+    unread e = go (isSome (readTable f t)) refl
+      where
+        go : (b : Bool) → isSome (readTable f t) ≡ b → b ≡ false
+        go true ok = never _ (slot-readable f t ok i (within ok) .read) e
+        go false ok = refl
+
     pub not-read : isSome (readSlot f (recordAt f i t)) ≡ false → faultless f t ≡ false
-    not-read e = faulty (λ ok. never _ (slot-readable f t ok i (within ok) .read) e)
+    not-read e = rw (unread e)
 
     module _ (l : Lawful f) (read : IsRead i) {heads next : List ℕ} (p : Passed heads next (i + 1)) where
       readable : Readable f (recordAt f i t)
       readable = record { size = length-slot f t i (inside-count f t i h); read = read }
 
-      slots-from : (j : ℕ) → i ≤ j → j < countOf f t → IsRead j
-      slots-from j low high = go (eqb j i) refl
-        where
-          go : (b : Bool) → eqb j i ≡ b → IsRead j
-          go true e = subst IsRead (sym (eqb-true j i e)) read
-          go false e = p .slots j (omega (arith, eqb-false j i e)) high
+      slots-from : ReadFrom i
+      slots-from = read-more i read (p .slots)
 
       pub passed-unused : isUsed (recordAt f i t) ≡ false → Passed heads next i
       passed-unused u = record {
@@ -158,13 +176,16 @@ module _ (f : Form) (t : List ℕ) where
 
   -- ---- all slots passed
 
-  read-from : (i : ℕ) → ((j : ℕ) → i ≤ j → j < countOf f t → IsRead j) → readFrom f (countOf f t) i t ≡ true
+  read-from : (i : ℕ) → ReadFrom i → readFrom f (countOf f t) i t ≡ true
   read-from =
-      downward (λ (i : ℕ). ((j : ℕ) → i ≤ j → j < countOf f t → IsRead j) → readFrom f (countOf f t) i t ≡ true) (countOf f t)
+      downward (λ (i : ℕ). ReadFrom i → readFrom f (countOf f t) i t ≡ true) (countOf f t)
       (λ i h slots. read-end f (countOf f t) t i h)
       (λ i h more slots. read-next f (countOf f t) t i h ∙ rw (slots i (omega arith) h) (more (λ j low. slots j (omega arith))))
 
+  pub read-all : all (sizeRules f t) ≡ true → ReadFrom 0 → Reads f t
+  read-all e h = read-table f t ∙ rw e (read-none f (countOf f t) t ∙ read-from 0 h)
+
   pub passed-all : {heads next : List ℕ} → all (sizeRules f t) ≡ true → Passed heads next 0 → faultless f t ≡ true
   passed-all e p =
-      let ok : Reads f t = read-table f t ∙ rw e (read-none f (countOf f t) t ∙ read-from 0 (p .slots)) in
+      let ok = read-all e (p .slots) in
       rw ok (p .keys ok)

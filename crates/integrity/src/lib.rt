@@ -1,7 +1,10 @@
 // The check of a table: its length, each record, and that no two keys are equal. It makes the index by which a key is then found.
+mod size;
+
 use record::Form;
 use record::KEY_AT;
 use record::VALUE_AT;
+pub use size::has_size;
 ghost use mathlib.Core.Path.{_≡_};
 ghost use Prim.Native.Nat.{_≤_, _<_};
 ghost use lib.ListN.{length, getD};

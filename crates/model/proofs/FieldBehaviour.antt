@@ -20,7 +20,7 @@ use Rattle.model.specs.Bitfield.{Sub, allEndWithin, Ran, runSubs, fields
 use Rattle.model.specs.Command.{bitfield, under}
 use Rattle.model.specs.Parse.{parse}
 use Rattle.model.specs.Execute.{Effect, answer, store, valueOrEmpty, put, write, execute}
-use Rattle.model.specs.Call.{Outcome, errorReply, replied, effectOn, call}
+use Rattle.model.specs.Call.{Outcome, errorReply, replied, effectOn, callIn, call}
 use Rattle.model.proofs.Basics.{All}
 use Rattle.model.proofs.Steps.{Comes, Any, by-check, by-given}
 use Rattle.model.proofs.Records.{Kept}
@@ -124,7 +124,7 @@ module _ (f : Form) (t : List ℕ) (now : ℕ) (c b : List ℕ) (i : Inputs) (g 
   storedAt j s = replied 0 (results now slots k subs) (tableBytes f (set slots j s)) b
 
   call-executed : call f t now c b ≡ effectOn f t b slots (executed now slots k subs f)
-  unfolding call
+  unfolding callIn
   call-executed = rw (through-gate f t now (length b) c i g, e)
 
   -- a field past the limit is refused

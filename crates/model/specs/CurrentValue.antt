@@ -7,6 +7,7 @@ use lib.Dec.{eqb}
 use Rattle.model.specs.Bytes.{part}
 use Rattle.model.specs.Checked.{Checked, refuse, ok, _>>=_, _>>_}
 use Rattle.model.specs.Table.{Form, Slot, recordSize, valueAt}
+use Rattle.model.specs.Partition.{owner, installer, View, whole, sharedBy}
 use Rattle.model.specs.Search.{Placed, Lookup, liveAt, expiredAt, absent, lookup}
 use Rattle.model.specs.Resp.{arrayMark, bulkMark, line, bulksBytes}
 use Rattle.model.specs.Gate.{gate}
@@ -87,15 +88,31 @@ showsIn f now ss ws = do
   showsBy f now ss ws (lookup now (c .key) ss) c
 
 -- the tests of a call; 3 does not arise, since there is no reply buffer
-abbrev pub shows : Form → (table : List ℕ) (now : ℕ) (command : List ℕ) → Checked Shown
-shows f t now b = do
-  i ← gate f t now (f .replyRoom) b
+abbrev pub shows : Form → View → (table : List ℕ) (now : ℕ) (command : List ℕ) → Checked Shown
+shows f v t now b = do
+  i ← gate f v t now (f .replyRoom) b
   showsIn f now (i .slots) (i .words)
 
 abbrev pub orNothing : Checked Shown → Shown
 orNothing (refuse n) = nothing
 orNothing (ok s) = s
 
--- the current value; a refusal shows none
-unfoldable pub currentValue : Form → (table : List ℕ) (now : ℕ) (command : List ℕ) → Shown
-currentValue f t now b = orNothing (shows f t now b)
+-- a place in a table's bytes from `first` on, counted from the table's start
+abbrev pub shifted : (first : ℕ) → Shown → Shown
+shifted first nothing = nothing
+shifted first (inTable a n) = inTable (first + a) n
+shifted first (inCommand a n) = inCommand a n
+
+-- a place in the caller's part, counted from the table's start
+abbrev pub placeIn : Form → View → Shown → Shown
+placeIn f whole s = s
+placeIn f (sharedBy owner n) s = s
+placeIn f (sharedBy installer n) s = shifted (n * recordSize f) s
+
+-- the current value at a key of the caller's part; a refusal shows none
+unfoldable pub currentValueIn : Form → View → (table : List ℕ) (now : ℕ) (command : List ℕ) → Shown
+currentValueIn f v t now b = placeIn f v (orNothing (shows f v t now b))
+
+-- the current value in the whole table
+abbrev pub currentValue : Form → (table : List ℕ) (now : ℕ) (command : List ℕ) → Shown
+currentValue f = currentValueIn f whole

@@ -1,2 +1,3 @@
 pub mod Located
 pub mod Reports
+pub mod Views

@@ -20,7 +20,7 @@ ghost use Rattle.status.specs.Status.{Compared};
 // Says what is wrong with a table, if anything is.
 fn tell_if_bad(table: &[u8], path: &[u8]) {
     if !integrity::is_good(table, Form::Of128) {
-        tell_faults(table, path);
+        tell_faults(table, 0, path);
     }
 }
 

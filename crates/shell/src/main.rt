@@ -1,5 +1,6 @@
 // Commands on a table file, from the command line or from standard input. The script `pietrunel` at the repository's root runs this program
 // and a keeper beside it, which has the table's lock and the time, and takes the exit status.
+mod caller;
 mod comparison;
 mod creation;
 mod exchange;

@@ -82,5 +82,11 @@ pub fn refuse_call(number: u32, path: &[u8]) -> u64 {
     if number == 4 {
         return refuse_malformed();
     }
+    if number == 18 {
+        return refuse_file(
+            path,
+            b"the boundary is not from 1 to one less than the number of records",
+        );
+    }
     refuse(b"the reply has no room")
 }

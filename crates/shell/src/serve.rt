@@ -1,14 +1,15 @@
 // One command on a table's file: under the table's lock it is applied to the file's bytes, and a changed table is written.
+use crate::caller::Caller;
 use crate::exchange::Exchange;
 use crate::exchange::carry_out;
 use crate::keeper::Asked;
 use crate::keeper::Grant;
 use crate::keeper::ask;
 use crate::keeper::let_go;
-use crate::notice::Clock;
 use crate::notice::refuse_call;
 use crate::notice::tell_unwritten;
 use crate::notice::time_by;
+use partition::View;
 use reply::Answer;
 use status::LOST;
 use status::REFUSED;
@@ -47,6 +48,7 @@ fn apply(
     before: &[u8; SPACE],
     table: &mut [u8],
     size: usize,
+    view: View,
     time: u64,
     command: &[u8],
     reply: &mut [u8],
@@ -59,13 +61,14 @@ fn apply(
         return Tried::Failed;
     }
     let old = &old[0..size];
-    let done = carry_out(old, &mut table[0..size], time, command, reply);
+    let done = carry_out(old, &mut table[0..size], view, time, command, reply);
     Tried::Done(done, size)
 }
 
 // Reads a table and applies a command to it.
 fn attempt(
     path: &[u8],
+    view: View,
     time: u64,
     command: &[u8],
     table: &mut [u8; SPACE],
@@ -75,7 +78,7 @@ fn attempt(
         return Tried::Failed;
     };
     let before = *table;
-    apply(&before, table, size, time, command, reply)
+    apply(&before, table, size, view, time, command, reply)
 }
 
 // Replaces the table's file by the first `size` bytes of a buffer; gives back whether all went well.
@@ -91,12 +94,13 @@ fn write_first(path: &[u8], rights: Rights, table: &[u8; SPACE], size: usize) ->
 fn serve_alone(
     grant: Grant,
     path: &[u8],
+    view: View,
     time: u64,
     command: &[u8],
     reply: &mut [u8; 128],
 ) -> Tried {
     let mut table = [0u8; SPACE];
-    let tried = attempt(path, time, command, &mut table, reply);
+    let tried = attempt(path, view, time, command, &mut table, reply);
     let Tried::Done(done, size) = tried else {
         return Tried::Failed;
     };
@@ -144,13 +148,15 @@ fn show(answer: Answer, changed: bool, buffer: &[u8; 128], raw: bool, path: &[u8
 
 // Applies a command to a table's file, prints the reply and gives back the exit status. The lock is let go before the reply is written, which
 // may take as long as its reader likes. Where it cannot be let go no command may follow, so that it ends with this program.
-pub fn serve(path: &[u8], clock: Clock, command: &[u8], raw: bool) -> u64 {
+pub fn serve(path: &[u8], caller: Caller, command: &[u8], raw: bool) -> u64 {
     let Asked::Granted(grant) = ask(true) else {
         return REFUSED;
     };
     let mut reply = [0u8; 128];
+    let clock = caller.clock;
+    let view = caller.view;
     let time = time_by(clock, grant.time);
-    let tried = serve_alone(grant, path, time, command, &mut reply);
+    let tried = serve_alone(grant, path, view, time, command, &mut reply);
     let freed = let_go(true);
     let Tried::Done(done, _) = tried else {
         return REFUSED;

@@ -1,6 +1,6 @@
 // The commands on standard input, one after the other: each is applied and answered as soon as it is whole. The lock is asked for when a command
 // is whole and not before, so that a client that sends nothing holds up nobody.
-use crate::notice::Clock;
+use crate::caller::Caller;
 use crate::notice::refuse_malformed;
 use crate::serve::serve;
 use assembler::Assembled;
@@ -68,12 +68,12 @@ fn count_in(at: Session, n: usize, status: u64) -> Next {
 }
 
 // Takes a piece up to the end of its first command, and answers that.
-fn take(path: &[u8], clock: Clock, at: Session, bytes: &mut [u8; SIZE], piece: &[u8]) -> Next {
+fn take(path: &[u8], caller: Caller, at: Session, bytes: &mut [u8; SIZE], piece: &[u8]) -> Next {
     let held = at.held;
     match assemble(bytes, held, piece) {
         Assembled::More => Next::On(hold(at, piece.len())),
         Assembled::Whole(n) => {
-            let status = serve(path, clock, command(bytes, held, piece, n), true);
+            let status = serve(path, caller, command(bytes, held, piece, n), true);
             count_in(at, n, status)
         }
         Assembled::Refused(_) => Next::End(refuse_malformed()),
@@ -83,7 +83,7 @@ fn take(path: &[u8], clock: Clock, at: Session, bytes: &mut [u8; SIZE], piece: &
 // The same for what is left of the last read.
 fn take_rest(
     path: &[u8],
-    clock: Clock,
+    caller: Caller,
     at: Session,
     bytes: &mut [u8; SIZE],
     buffer: &[u8; PIECE],
@@ -97,7 +97,7 @@ fn take_rest(
     if end < from {
         return Next::End(REFUSED);
     }
-    take(path, clock, at, bytes, &came[from..end])
+    take(path, caller, at, bytes, &came[from..end])
 }
 
 // At the end of the input: a command that is not whole is malformed.
@@ -129,20 +129,20 @@ fn read_more(at: Session, buffer: &mut [u8; PIECE]) -> Next {
 // Answers one command, or reads where no byte is left.
 fn turn(
     path: &[u8],
-    clock: Clock,
+    caller: Caller,
     at: Session,
     bytes: &mut [u8; SIZE],
     buffer: &mut [u8; PIECE],
 ) -> Next {
     if at.from < at.end {
-        return take_rest(path, clock, at, bytes, buffer);
+        return take_rest(path, caller, at, bytes, buffer);
     }
     read_more(at, buffer)
 }
 
 // Applies the commands on standard input to a table's file, and gives back the exit status. Nothing says that the input ends, and a proved loop
 // has to: so the turns are counted down from a number that no run uses up.
-pub fn serve_input(path: &[u8], clock: Clock) -> u64 {
+pub fn serve_input(path: &[u8], caller: Caller) -> u64 {
     let mut bytes = [0u8; SIZE];
     let mut buffer = [0u8; PIECE];
     let mut at = Session {
@@ -153,7 +153,7 @@ pub fn serve_input(path: &[u8], clock: Clock) -> u64 {
     };
     let mut turns = u64::MAX;
     while 0 < turns {
-        match turn(path, clock, at, &mut bytes, &mut buffer) {
+        match turn(path, caller, at, &mut bytes, &mut buffer) {
             Next::On(next) => at = next,
             Next::End(status) => return status,
         }

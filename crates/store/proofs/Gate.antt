@@ -5,7 +5,7 @@ use mathlib.Core.List.{List}
 use lib.ListN.{length}
 use Rattle.model.specs.Checked.{refuse}
 use Rattle.model.specs.Table.{form128}
-use Rattle.model.specs.Call.{Outcome, call}
+use Rattle.model.specs.Call.{Outcome, callIn, call}
 use Rattle.reply.specs.declared.Answer.{Answer}
 use Rattle.reply.specs.Replied.{outcomeOf}
 use Rattle.execute.specs.Does.{Held, held}
@@ -26,10 +26,10 @@ called e = record {
 -- the reply buffer has the query's room
 module _ (q : Query) (t c : List ℕ) {b : List ℕ} (room : q .room ≡ length b) where
   pub called-refused : {n : ℕ} → gateIn q t c ≡ refuse n → Called (call form128 t (q .time) c b) (record { number = n; len = 0 }) t b
-  unfolding call
+  unfolding callIn
   called-refused e = called (rw (← room, e))
 
   pub called-passed : {places : List ℕ} {n : ℕ} → Entered q t c places n → {new : Held} {a : Answer} → Runs q c (held t b) new a
       → Called (call form128 t (q .time) c b) a (new .table) (new .reply)
-  unfolding call
+  unfolding callIn
   called-passed p d = called (rw (← room, p .is) (d .outcome))

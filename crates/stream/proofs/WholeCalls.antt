@@ -8,10 +8,11 @@ use lib.Dec.{leb}
 use borrow.Author.Tests.{leb-true}
 use Rattle.model.specs.Checked.{Checked, refuse, ok, _>>=_}
 use Rattle.model.specs.Table.{Form, Slot, timeLimit}
+use Rattle.model.specs.Partition.{whole}
 use Rattle.model.specs.Gate.{goodTable, gate}
 use Rattle.model.specs.Parse.{wordAt, parse}
 use Rattle.model.specs.Execute.{Effect, answer, store, execute}
-use Rattle.model.specs.Call.{Outcome, effectOn, attempt, orUntouched, call}
+use Rattle.model.specs.Call.{Outcome, effectOn, attempt, orUntouched, callIn, call}
 use Rattle.model.proofs.Words.{few-words}
 use Rattle.model.proofs.Steps.{Comes, by-check, by-step, weaken}
 use Rattle.model.proofs.Commands.{Parsing, Known, parse-known}
@@ -24,7 +25,7 @@ abbrev Not4 : ℕ → Type 0
 Not4 n = n ≡ 4 → ⊥
 
 module _ (f : Form) (t : List ℕ) (now : ℕ) (c b : List ℕ) (v : Whole c) where
-  gate-not-4 : Comes Not4 (Through f t now (length b) c) (gate f t now (length b) c)
+  gate-not-4 : Comes Not4 (Through f t now (length b) c) (gate f whole t now (length b) c)
   unfolding gate
   gate-not-4 =
       by-step Not4 (Through f t now (length b) c) (Good f t) (goodTable f t) _ (good-table Not4 f t (λ e. omega arith)) λ ss g.
@@ -44,10 +45,10 @@ module _ (f : Form) (t : List ℕ) (now : ℕ) (c b : List ℕ) (v : Whole c) wh
     settled (ok o) h = h
 
     pub call-not-4 : call f t now c b .number ≡ 4 → ⊥
-    unfolding call
+    unfolding callIn
     call-not-4 =
-        settled (attempt f t now c b)
-        (by-step Not4 (λ o. Not4 (o .number)) (Through f t now (length b) c) (gate f t now (length b) c) _ gate-not-4 λ i h.
+        settled (attempt f whole t now c b)
+        (by-step Not4 (λ o. Not4 (o .number)) (Through f t now (length b) c) (gate f whole t now (length b) c) _ gate-not-4 λ i h.
         effect-not-4 (i .slots) (h .table) (wordAt 1 (i .words)) (parse f now (i .words) >>= execute f now (i .slots))
         (by-step Late (FineIn f w now t (i .slots) (h .table) (wordAt 1 (i .words))) (Known f (i .words)) (parse f now (i .words)) (execute f now (i .slots))
         (weaken Parsing Late (Known f (i .words)) (parse f now (i .words)) (λ n h. omega arith) (parse-known f now (i .words)))

@@ -25,7 +25,12 @@ pub fn library(table: &mut [u8], time: u64, command: &[u8], reply: &mut [u8]) ->
 /// Where the library's current value stands.
 #[cfg(feature = "library")]
 fn library_current_value(table: &[u8], time: u64, command: &[u8]) -> Option<Shown> {
-    let value = pietrunel::current_value(table, time, command)?;
+    place(pietrunel::current_value(table, time, command)?, table, command)
+}
+
+/// Where a part of a command or a table stands in it.
+#[cfg(feature = "library")]
+pub fn place(value: &[u8], table: &[u8], command: &[u8]) -> Option<Shown> {
     let start_in = |whole: &[u8]| {
         let range = whole.as_ptr_range();
         range.contains(&value.as_ptr()).then(|| value.as_ptr().addr() - range.start.addr())

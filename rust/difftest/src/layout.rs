@@ -89,11 +89,15 @@ pub fn find(table: &[u8], wanted: &[u8]) -> Option<usize> {
 
 /// Whether the table keeps all rules.
 pub fn is_good(table: &[u8]) -> bool {
+    has_good_records(table) && keys_are_distinct(records(table))
+}
+
+/// Whether the table keeps all rules but that of equal keys.
+pub fn has_good_records(table: &[u8]) -> bool {
     let all = records(table);
     table.len().is_multiple_of(RECORD)
         && (1..=MAX_RECORDS).contains(&all.len())
         && all.iter().all(record_is_good)
-        && keys_are_distinct(all)
 }
 
 fn keys_are_distinct(records: &[Record]) -> bool {

@@ -6,7 +6,7 @@
 //! hold the outcome to plain rules. `history` makes whole lists of calls on one
 //! record and checks their answers against a serial execution. `streams` makes
 //! commands in pieces, and `feed` takes one piece. `pairs` makes the files of two
-//! tables.
+//! tables. `shared` makes and compares calls of two parties on one table.
 
 #![forbid(unsafe_code)]
 
@@ -30,6 +30,7 @@ pub mod printed;
 pub mod resp;
 pub mod rng;
 pub mod settings;
+pub mod shared;
 pub mod streams;
 
 pub use commands::bitfield_words;

@@ -1,7 +1,8 @@
 //! Commands that the wrapper makes of words, by the library, on random words.
 
-use difftest::{case, printed, resp, settings, Rng};
-use pietrunel::{Command, CommandTooLong, Error, Refusal, Reply};
+use difftest::shared::shared_case;
+use difftest::{case, printed, resp, settings, Case, Rng};
+use pietrunel::{Command, CommandTooLong, Error, Party, Refusal, Reply};
 
 fn command(words: &[Vec<u8>]) -> Command<'_> {
     words[1..].iter().fold(Command::new(&words[0]), |command, word| command.arg(word))
@@ -83,6 +84,29 @@ fn a_command_calls_the_library() {
         let expected = answer.result().map(|_| printed::parse(&case.command, answer.reply()));
         assert_eq!(result, expected, "{}", case.again());
         assert_eq!((table, reply), (same_table, same_reply), "{}", case.again());
+    }
+}
+
+/// A party's call by words is its call by their bytes.
+#[test]
+fn a_command_of_a_party_calls_the_library() {
+    let mut rng = Rng::new(settings::seed());
+    for _ in 0..settings::calls() / 10 {
+        let case = shared_case(&mut rng);
+        let party = rng.pick(&[Party::Whole, Party::Owner, Party::Installer]);
+        let (again, boundary) = (case.again(), case.boundary);
+        let Case { table, time, command: bytes, reply } = case.call;
+        let Some(words) = resp::decode(&bytes) else {
+            continue;
+        };
+        let (mut same_table, mut same_reply) = (table.clone(), reply.clone());
+        let (mut table, mut reply) = (table, reply);
+        let result = command(&words).shared_call(party, boundary, &mut table, time, &mut reply);
+        let answer =
+            pietrunel::shared_call(party, boundary, &mut same_table, time, &bytes, &mut same_reply);
+        let expected = answer.result().map(|_| printed::parse(&bytes, answer.reply()));
+        assert_eq!(result, expected, "{again}");
+        assert_eq!((table, reply), (same_table, same_reply), "{again}");
     }
 }
 

@@ -1,7 +1,7 @@
 //! A command made of words.
 
 use crate::decimal::Decimal;
-use crate::{call, ffi, Refusal, Reply, MAX_COMMAND, MAX_WORDS};
+use crate::{call, ffi, shared_call, Answer, Party, Refusal, Reply, MAX_COMMAND, MAX_WORDS};
 use core::fmt::{self, Display, Formatter};
 use core::ops::Deref;
 
@@ -99,8 +99,25 @@ impl<'a> Command<'a> {
         time_ms: u64,
         reply: &'r mut [u8],
     ) -> Result<Reply<'r>, Refusal> {
-        let parse = if self.is_bitfield() { Reply::parse_bitfield } else { Reply::parse };
-        call(table, time_ms, &self.encode()?, reply).result_by(parse)
+        self.parse(call(table, time_ms, &self.encode()?, reply))
+    }
+
+    /// Applies the command to a party's part of a table that is shared at a boundary, and takes its
+    /// reply apart; see [`shared_call`]. [`Party`] has an example.
+    pub fn shared_call<'r>(
+        &self,
+        party: Party,
+        boundary: usize,
+        table: &mut [u8],
+        time_ms: u64,
+        reply: &'r mut [u8],
+    ) -> Result<Reply<'r>, Refusal> {
+        self.parse(shared_call(party, boundary, table, time_ms, &self.encode()?, reply))
+    }
+
+    /// The reply to this command, taken apart.
+    fn parse<'r>(&self, answer: Answer<'r>) -> Result<Reply<'r>, Refusal> {
+        answer.result_by(if self.is_bitfield() { Reply::parse_bitfield } else { Reply::parse })
     }
 
     fn is_bitfield(&self) -> bool {

@@ -35,7 +35,7 @@ pub enum Error {
     /// 16: the joined value is over 64 bytes; or a field of SET or INCRBY goes past bit 511, even if
     /// nothing would be written.
     JoinedTooLong,
-    /// 17: no record is free.
+    /// 17: no record is free; in a shared call, of the caller's part.
     TableFull,
 }
 

@@ -23,6 +23,32 @@ extern "C" {
         len: *mut usize,
     ) -> bool;
 
+    fn pietrunel_shared_call(
+        party: u32,
+        boundary: usize,
+        table: *mut u8,
+        table_len: usize,
+        time_ms: u64,
+        command: *const u8,
+        command_len: usize,
+        reply: *mut u8,
+        reply_cap: usize,
+        reply_len: *mut usize,
+    ) -> u32;
+
+    fn pietrunel_shared_current_value(
+        party: u32,
+        boundary: usize,
+        table: *const u8,
+        table_len: usize,
+        time_ms: u64,
+        command: *const u8,
+        command_len: usize,
+        in_command: *mut bool,
+        start: *mut usize,
+        len: *mut usize,
+    ) -> bool;
+
     fn pietrunel_feed(
         held: *mut u8,
         held_cap: usize,
@@ -57,6 +83,26 @@ pub struct Shown {
     pub len: usize,
 }
 
+impl Shown {
+    /// Values that no call gives, so that it shows if the library did not write them.
+    const UNWRITTEN: Shown = Shown { in_command: true, start: usize::MAX, len: usize::MAX };
+
+    /// The bytes that are shown.
+    pub fn part<'a>(&self, table: &'a [u8], command: &'a [u8]) -> &'a [u8] {
+        let whole = if self.in_command { command } else { table };
+        &whole[self.start..self.start + self.len]
+    }
+
+    /// What the library wrote, if a value is shown.
+    fn if_any(self, any: bool) -> Option<Shown> {
+        if any {
+            return Some(self);
+        }
+        assert_eq!(self, Shown { in_command: false, start: 0, len: 0 }, "nothing is shown");
+        None
+    }
+}
+
 /// The number and the reply's length.
 pub fn call(table: &mut [u8], time_ms: u64, command: &[u8], reply: &mut [u8]) -> (u32, usize) {
     // No length, so that it shows if the library did not write it.
@@ -81,7 +127,7 @@ pub fn call(table: &mut [u8], time_ms: u64, command: &[u8], reply: &mut [u8]) ->
 
 /// Where the current value stands, if one is shown.
 pub fn current_value(table: &[u8], time_ms: u64, command: &[u8]) -> Option<Shown> {
-    let mut shown = Shown { in_command: true, start: usize::MAX, len: usize::MAX };
+    let mut shown = Shown::UNWRITTEN;
     // SAFETY: each pointer comes from a slice with the length beside it, which is only read, or
     // from a field of `shown`. The library keeps no pointer; a `bool` of C is one of Rust.
     let any = unsafe {
@@ -96,11 +142,65 @@ pub fn current_value(table: &[u8], time_ms: u64, command: &[u8]) -> Option<Shown
             &mut shown.len,
         )
     };
-    if any {
-        return Some(shown);
-    }
-    assert_eq!(shown, Shown { in_command: false, start: 0, len: 0 }, "nothing is shown");
-    None
+    shown.if_any(any)
+}
+
+/// The number and the reply's length, of the call of a party with this number.
+pub fn shared_call(
+    party: u32,
+    boundary: usize,
+    table: &mut [u8],
+    time_ms: u64,
+    command: &[u8],
+    reply: &mut [u8],
+) -> (u32, usize) {
+    let mut len = usize::MAX;
+    // SAFETY: each pointer comes from a slice with the length beside it, or from `len`, and the
+    // mutable ones are borrowed alone. The library is proved to read and write only there, whatever
+    // party and boundary are; it keeps no pointer.
+    let number = unsafe {
+        pietrunel_shared_call(
+            party,
+            boundary,
+            table.as_mut_ptr(),
+            table.len(),
+            time_ms,
+            command.as_ptr(),
+            command.len(),
+            reply.as_mut_ptr(),
+            reply.len(),
+            &mut len,
+        )
+    };
+    (number, len)
+}
+
+/// Where the current value stands in the part of a party with this number, if one is shown.
+pub fn shared_current_value(
+    party: u32,
+    boundary: usize,
+    table: &[u8],
+    time_ms: u64,
+    command: &[u8],
+) -> Option<Shown> {
+    let mut shown = Shown::UNWRITTEN;
+    // SAFETY: each pointer comes from a slice with the length beside it, which is only read, or
+    // from a field of `shown`. The library keeps no pointer; a `bool` of C is one of Rust.
+    let any = unsafe {
+        pietrunel_shared_current_value(
+            party,
+            boundary,
+            table.as_ptr(),
+            table.len(),
+            time_ms,
+            command.as_ptr(),
+            command.len(),
+            &mut shown.in_command,
+            &mut shown.start,
+            &mut shown.len,
+        )
+    };
+    shown.if_any(any)
 }
 
 /// The number, how many bytes of the piece were taken, and the reply's length.

@@ -44,6 +44,8 @@
 //! ```
 //!
 //! An [`Assembler`] takes commands off a line that hands them over a few bytes at a time.
+//!
+//! A [`Party`] works on its part of a table that two share, by [`shared_call`].
 
 #![no_std]
 #![deny(unsafe_code)]
@@ -59,6 +61,7 @@ mod error;
 #[allow(unsafe_code)]
 mod ffi;
 mod fields;
+mod party;
 mod refusal;
 mod rejection;
 mod reply;
@@ -69,6 +72,7 @@ pub use assembler::{Assembler, Progress};
 pub use command::{Command, CommandTooLong, Encoded};
 pub use error::Error;
 pub use fields::Fields;
+pub use party::Party;
 pub use refusal::Refusal;
 pub use rejection::Rejection;
 pub use reply::Reply;
@@ -137,6 +141,65 @@ pub fn feed<'r>(
 /// live, or a command that would be refused. Nothing is changed.
 pub fn current_value<'a>(table: &'a [u8], time_ms: u64, command: &'a [u8]) -> Option<&'a [u8]> {
     let shown = ffi::current_value(table, time_ms, command)?;
-    let whole = if shown.in_command { command } else { table };
-    Some(&whole[shown.start..shown.start + shown.len])
+    Some(shown.part(table, command))
+}
+
+/// Applies one command to a party's part of a table that is shared at a boundary, counted in records.
+///
+/// The command looks for its key and takes a record only in that part, and the bytes of the other
+/// one stay as they are. A boundary that is 0 or not below the number of records is refused. Equal
+/// keys are allowed in the two parts, but not within either, whoever calls. For [`Party::Whole`] it is
+/// [`call`], whatever the boundary is.
+///
+/// ```
+/// use pietrunel::{shared_call, Answer, Party, Rejection};
+///
+/// let mut table = [0; 2 * pietrunel::RECORD_SIZE];
+/// let mut reply = [0; pietrunel::REPLY_ROOM];
+/// let set = b"*3\r\n$5\r\nEXSET\r\n$3\r\nfoo\r\n$3\r\n100\r\n";
+/// let answer = shared_call(Party::Installer, 1, &mut table, 1000, set, &mut reply);
+/// assert_eq!(answer, Answer::Reply(b"+OK\r\n"));
+/// assert_eq!((table[0], table[pietrunel::RECORD_SIZE]), (0, 1));
+///
+/// let answer = shared_call(Party::Installer, 2, &mut table, 1000, set, &mut reply);
+/// assert_eq!(answer, Answer::Rejected(Rejection::BadBoundary));
+/// ```
+pub fn shared_call<'r>(
+    party: Party,
+    boundary: usize,
+    table: &mut [u8],
+    time_ms: u64,
+    command: &[u8],
+    reply: &'r mut [u8],
+) -> Answer<'r> {
+    let (number, len) = ffi::shared_call(party.number(), boundary, table, time_ms, command, reply);
+    Answer::new(number, &reply[..len])
+}
+
+/// The value that stands at the key after a party's EXGET or EXCAS, as [`current_value`] gives it: a
+/// part of the command or of the table. None also for what [`shared_call`] would refuse. Nothing is
+/// changed.
+///
+/// ```
+/// use pietrunel::{shared_call, shared_current_value, Party};
+///
+/// let mut table = [0; 2 * pietrunel::RECORD_SIZE];
+/// let mut reply = [0; pietrunel::REPLY_ROOM];
+/// let set = b"*3\r\n$5\r\nEXSET\r\n$3\r\nfoo\r\n$3\r\n100\r\n";
+/// shared_call(Party::Installer, 1, &mut table, 1000, set, &mut reply);
+///
+/// let get = b"*2\r\n$5\r\nEXGET\r\n$3\r\nfoo\r\n";
+/// let value = shared_current_value(Party::Installer, 1, &table, 1000, get);
+/// assert_eq!(value, Some(&b"100"[..]));
+/// assert_eq!(shared_current_value(Party::Owner, 1, &table, 1000, get), None);
+/// ```
+pub fn shared_current_value<'a>(
+    party: Party,
+    boundary: usize,
+    table: &'a [u8],
+    time_ms: u64,
+    command: &'a [u8],
+) -> Option<&'a [u8]> {
+    let shown = ffi::shared_current_value(party.number(), boundary, table, time_ms, command)?;
+    Some(shown.part(table, command))
 }

@@ -1,12 +1,14 @@
-//! Numbers 1 to 4, which come without a reply.
+//! Numbers 1 to 4 and 18, which come without a reply.
 
 use core::fmt::{self, Display, Formatter};
 
-/// Why a call is refused without a reply: numbers 1 to 4, tested in this order.
+/// Why a call is refused without a reply: numbers 1 to 4, tested in this order. 18 is tested within 1,
+/// before equal keys.
 #[derive(Clone, Copy, Debug, PartialEq, Eq)]
 #[non_exhaustive]
 pub enum Rejection {
-    /// 1: the table's length or a record breaks the layout's rules.
+    /// 1: the table's length or a record breaks the layout's rules, or two records of it, in a shared
+    /// call two of one part, have equal keys.
     DamagedTable,
     /// 2: the time is above 2^62.
     TimeOutOfRange,
@@ -14,7 +16,9 @@ pub enum Rejection {
     ShortReplyBuffer,
     /// 4: the command is no RESP2 array of 1 to 16 bulk strings in at most 512 bytes.
     MalformedCommand,
-    /// A number above 17, of a later library.
+    /// 18: the boundary of a shared call is 0, or not below the number of records.
+    BadBoundary,
+    /// A number above 18, of a later library.
     Other(u32),
 }
 
@@ -26,6 +30,7 @@ impl Rejection {
             2 => Rejection::TimeOutOfRange,
             3 => Rejection::ShortReplyBuffer,
             4 => Rejection::MalformedCommand,
+            18 => Rejection::BadBoundary,
             _ => Rejection::Other(number),
         }
     }
@@ -37,6 +42,7 @@ impl Rejection {
             Rejection::TimeOutOfRange => 2,
             Rejection::ShortReplyBuffer => 3,
             Rejection::MalformedCommand => 4,
+            Rejection::BadBoundary => 18,
             Rejection::Other(number) => number,
         }
     }
@@ -51,6 +57,7 @@ impl Display for Rejection {
             Rejection::MalformedCommand => {
                 "not a command: 1 to 16 words in at most 512 bytes of RESP2"
             }
+            Rejection::BadBoundary => "the boundary is 0, or not below the number of records",
             Rejection::Other(number) => return write!(f, "refused with number {number}"),
         })
     }

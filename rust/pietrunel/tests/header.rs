@@ -1,6 +1,6 @@
 //! The crate's limits and numbers are those of the C header.
 
-use pietrunel::{Error, Progress, Rejection};
+use pietrunel::{Error, Party, Progress, Rejection};
 
 const HEADER: &str = include_str!("../../../include/pietrunel.h");
 
@@ -50,6 +50,7 @@ fn numbers() {
         Rejection::TimeOutOfRange,
         Rejection::ShortReplyBuffer,
         Rejection::MalformedCommand,
+        Rejection::BadBoundary,
     ];
     let errors = [
         Error::UnknownCommand,
@@ -72,4 +73,12 @@ fn numbers() {
         assert_eq!(defined(&name), u64::from(number), "{name}");
     }
     assert_eq!(defined("MORE"), u64::from(Progress::More.number()));
+}
+
+#[test]
+fn parties() {
+    for party in [Party::Whole, Party::Owner, Party::Installer] {
+        let name = in_c(format!("{party:?}"));
+        assert_eq!(defined(&name), u64::from(party.number()), "{name}");
+    }
 }

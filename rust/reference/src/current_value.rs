@@ -5,6 +5,7 @@ use crate::command::Action;
 use crate::execute::execute;
 use crate::gate::{gate, REPLY_ROOM};
 use crate::parse::parse;
+use crate::partition::View;
 use crate::resp::{bulk_bytes, line};
 use crate::search::{lookup, Lookup};
 use crate::table::{Record, RECORD, VALUE_AT};
@@ -21,7 +22,13 @@ pub struct Shown {
 /// None for another command, a key that is not live, or any refusal; 3 does not
 /// arise, since there is no reply buffer.
 pub fn current_value(table: &[u8], time: u64, command: &[u8]) -> Option<Shown> {
-    let inputs = gate(table, time, REPLY_ROOM, command).ok()?;
+    current_value_in(View::Whole, table, time, command)
+}
+
+/// Likewise, with the key looked for in a part of the table. The place is counted
+/// from the start of the whole table.
+pub fn current_value_in(view: View, table: &[u8], time: u64, command: &[u8]) -> Option<Shown> {
+    let inputs = gate(view, table, time, REPLY_ROOM, command).ok()?;
     let command = parse(time, &inputs.words).ok()?;
     execute(time, &inputs.slots, &command).ok()?;
     let Lookup::Live(slot, record) = lookup(time, &command.key, &inputs.slots) else {
@@ -32,7 +39,7 @@ pub fn current_value(table: &[u8], time: u64, command: &[u8]) -> Option<Shown> {
             let start = value_start(&inputs.words);
             Some(Shown { in_command: true, start, len: swap.value.len() })
         }
-        Action::Excas(_) | Action::Exget { .. } => Some(value_of(slot, record)),
+        Action::Excas(_) | Action::Exget { .. } => Some(value_of(inputs.first + slot, record)),
         _ => None,
     }
 }

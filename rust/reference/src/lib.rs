@@ -19,14 +19,16 @@ mod gate;
 mod number;
 mod options;
 mod parse;
+mod partition;
 mod resp;
 mod search;
 mod subcommands;
 mod table;
 
-pub use current_value::{current_value, Shown};
+pub use current_value::{current_value, current_value_in, Shown};
 pub use difference::difference;
 pub use feed::{feed, Fed, MORE};
+pub use partition::{Party, View};
 
 use execute::{execute, Effect};
 use gate::gate;
@@ -59,10 +61,22 @@ const MESSAGES: [&str; 13] = [
     "table is full",
 ];
 
-/// Runs one command. The numbers 1 to 4 leave table and reply buffer untouched,
-/// 5 to 17 write an error reply.
+/// Runs one command on the whole table. The numbers 1 to 4 leave table and reply
+/// buffer untouched, 5 to 17 write an error reply.
 pub fn call(table: &mut [u8], time: u64, command: &[u8], reply: &mut [u8]) -> Answer {
-    let inputs = match gate(table, time, reply.len(), command) {
+    call_in(View::Whole, table, time, command, reply)
+}
+
+/// Runs one command on a part of the table; the rest keeps its bytes. Number 18
+/// acts as 1 to 4 do.
+pub fn call_in(
+    view: View,
+    table: &mut [u8],
+    time: u64,
+    command: &[u8],
+    reply: &mut [u8],
+) -> Answer {
+    let inputs = match gate(view, table, time, reply.len(), command) {
         Ok(inputs) => inputs,
         Err(number) => return Answer { number, len: 0 },
     };
@@ -71,6 +85,7 @@ pub fn call(table: &mut [u8], time: u64, command: &[u8], reply: &mut [u8]) -> An
     match effect {
         Ok(Effect::Answer(answer)) => write_reply(0, &answer, reply),
         Ok(Effect::Store(at, slot, answer)) => {
+            let at = inputs.first + at;
             table[at * RECORD..][..RECORD].copy_from_slice(&slot_bytes(&slot));
             write_reply(0, &answer, reply)
         }

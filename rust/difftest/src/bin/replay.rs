@@ -2,21 +2,22 @@
 
 use difftest::compare::{difference, library, Outcome, LIBRARY};
 use difftest::hex::unhex;
+use difftest::shared::{self, SharedCase};
 use difftest::Case;
+use reference::{Party, Shown};
 use std::process::ExitCode;
 
 fn main() -> ExitCode {
     let words: Vec<String> = std::env::args().skip(1).collect();
-    let Some(case) = read(&words) else {
-        eprintln!("usage: replay TABLE TIME COMMAND REPLY-BUFFER");
-        eprintln!("bytes in hexadecimal, - for none; the time in decimal");
+    let Some((case, party)) = read(&words) else {
+        eprintln!("usage: replay TABLE TIME COMMAND REPLY-BUFFER [Owner|Installer BOUNDARY]");
+        eprintln!("bytes in hexadecimal, - for none; time and boundary in decimal");
         return ExitCode::from(2);
     };
     println!("command    {}", case.command.escape_ascii());
-    let (ours, theirs) = (case.run(library), case.run(reference::call));
+    let (ours, theirs, shown) = run(&case, party);
     print("library", &case, &ours);
     print("reference", &case, &theirs);
-    let shown = case.compare_current_value(&LIBRARY);
     match (difference("library", &ours, &theirs), &shown) {
         (None, Ok(shown)) => {
             println!("they agree; current value {shown:?}");
@@ -29,16 +30,42 @@ fn main() -> ExitCode {
     }
 }
 
-fn read(words: &[String]) -> Option<Case> {
-    let [table, time, command, reply] = words else {
+/// The outcome in both stores, and where the current value stands.
+fn run(
+    case: &Case,
+    party: Option<(Party, usize)>,
+) -> (Outcome, Outcome, Result<Option<Shown>, String>) {
+    let Some((party, boundary)) = party else {
+        let shown = case.compare_current_value(&LIBRARY);
+        return (case.run(library), case.run(reference::call), shown);
+    };
+    let case = SharedCase { party, boundary, call: case.clone() };
+    let shown = case.compare_current_value(&shared::LIBRARY);
+    (case.run(&shared::LIBRARY), case.run(&shared::REFERENCE), shown)
+}
+
+/// A case, and party and boundary if it is a shared call.
+fn read(words: &[String]) -> Option<(Case, Option<(Party, usize)>)> {
+    let [table, time, command, reply, party @ ..] = words else {
         return None;
     };
-    Some(Case {
+    let case = Case {
         table: unhex(table)?,
         time: time.parse().ok()?,
         command: unhex(command)?,
         reply: unhex(reply)?,
-    })
+    };
+    let party = match party {
+        [] => None,
+        [party, boundary] => Some((read_party(party)?, boundary.parse().ok()?)),
+        _ => return None,
+    };
+    Some((case, party))
+}
+
+fn read_party(word: &str) -> Option<Party> {
+    let parties = [Party::Owner, Party::Installer];
+    parties.into_iter().find(|party| format!("{party:?}") == word)
 }
 
 /// The answer and the records that changed.

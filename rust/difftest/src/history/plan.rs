@@ -8,6 +8,8 @@ pub enum Step {
     Transaction(usize),
     Other,
     Refused,
+    /// A call of the other party.
+    Foreign,
 }
 
 pub struct Plan {
@@ -39,4 +41,15 @@ pub fn plan(rng: &mut Rng) -> Plan {
         }
     }
     Plan { list, transactions }
+}
+
+impl Plan {
+    /// The same with calls of the other party at random places.
+    pub fn with_foreign(mut self, rng: &mut Rng) -> Plan {
+        for _ in 0..rng.below(12) {
+            let at = rng.below(self.list.len() + 1);
+            self.list.insert(at, Step::Foreign);
+        }
+        self
+    }
 }

@@ -3,9 +3,12 @@
 use super::update::Update;
 use super::Summary;
 use crate::commands::{self, Faults};
-use crate::layout::{self, Fields, Record, MAX_TIME, MAX_VERSION};
+use crate::layout::{self, Fields, Record, MAX_TIME, MAX_VERSION, RECORD};
 use crate::resp::{self, Reply};
+use crate::shared::{other, part_beside, part_of};
 use crate::{tables, words, Answer, Rng};
+use reference::{Party, View};
+use std::ops::Range;
 
 /// What a transaction got from its EXGET.
 #[derive(Clone)]
@@ -28,6 +31,8 @@ pub enum State {
 pub struct Run<S> {
     store: S,
     table: Vec<u8>,
+    /// The part of the table in which the record stands.
+    view: View,
     slot: usize,
     key: Vec<u8>,
     /// The record by serial execution: only answers of OK change it.
@@ -38,7 +43,7 @@ pub struct Run<S> {
 
 impl<S> Run<S>
 where
-    S: FnMut(&mut [u8], u64, &[u8], &mut [u8]) -> Answer,
+    S: FnMut(View, &mut [u8], u64, &[u8], &mut [u8]) -> Answer,
 {
     /// A table that holds the record in a random slot.
     pub fn new(rng: &mut Rng, store: S, transactions: usize) -> Run<S> {
@@ -65,7 +70,31 @@ where
         .record();
         layout::records_mut(&mut table)[slot] = serial;
         let transactions = vec![State::NotBegun; transactions];
-        Run { store, table, slot, key, serial, transactions, summary: Summary::default() }
+        let (view, summary) = (View::Whole, Summary::default());
+        Run { store, table, view, slot, key, serial, transactions, summary }
+    }
+
+    /// The same with the table as one party's part, beside one of the other's.
+    pub fn shared(mut self, rng: &mut Rng) -> Run<S> {
+        let now = words::time(rng);
+        let others = part_beside(rng, &self.table, 6, now);
+        let party = rng.pick(&[Party::Owner, Party::Installer]);
+        let (boundary, table) = match party {
+            Party::Owner => (self.table.len() / RECORD, [self.table, others].concat()),
+            Party::Installer => (others.len() / RECORD, [others, self.table].concat()),
+        };
+        if party == Party::Installer {
+            self.slot += boundary;
+        }
+        Run { table, view: View::SharedBy { party, boundary }, ..self }
+    }
+
+    /// The bytes of a part.
+    fn part(&self, view: View) -> Range<usize> {
+        match view {
+            View::Whole => 0..self.table.len(),
+            View::SharedBy { party, boundary } => part_of(party, boundary, self.table.len()),
+        }
     }
 
     /// A time at which the record is live, often the last such one.
@@ -77,11 +106,32 @@ where
         }
     }
 
-    /// Calls the store; gives back number and reply.
-    fn call(&mut self, time: u64, words: &[Vec<u8>], room: usize) -> (u32, Vec<u8>) {
+    /// Calls the store for who has the record; gives back number and reply.
+    fn call(
+        &mut self,
+        time: u64,
+        words: &[Vec<u8>],
+        room: usize,
+    ) -> Result<(u32, Vec<u8>), String> {
+        self.call_in(self.view, time, words, room)
+    }
+
+    /// Calls the store for a part. No other byte may change.
+    fn call_in(
+        &mut self,
+        view: View,
+        time: u64,
+        words: &[Vec<u8>],
+        room: usize,
+    ) -> Result<(u32, Vec<u8>), String> {
+        let before = self.table.clone();
         let mut reply = vec![0xa5; room];
-        let answer = (self.store)(&mut self.table, time, &resp::encode(words), &mut reply);
-        (answer.number, reply[..answer.len].to_vec())
+        let answer = (self.store)(view, &mut self.table, time, &resp::encode(words), &mut reply);
+        let Range { start, end } = self.part(view);
+        if self.table[..start] != before[..start] || self.table[end..] != before[end..] {
+            return Err(format!("{view:?} changes the other part: {words:?}"));
+        }
+        Ok((answer.number, reply[..answer.len].to_vec()))
     }
 
     /// The EXGET of a transaction.
@@ -91,7 +141,7 @@ where
         if rng.chance(30) {
             words.push(commands::any_case(rng, "WITHFLAGS"));
         }
-        let (number, reply) = self.call(time, &words, 128);
+        let (number, reply) = self.call(time, &words, 128)?;
         if number != 0 {
             return Err(format!("EXGET of a live record is refused by {number}"));
         }
@@ -122,7 +172,7 @@ where
             return self.refused_write(rng, &words);
         }
         let time = self.live_time(rng);
-        let (number, reply) = self.call(time, &words, 200);
+        let (number, reply) = self.call(time, &words, 200)?;
         if number != 0 {
             return Err(format!("EXCAS of a live record is refused by {number}"));
         }
@@ -143,7 +193,7 @@ where
     /// The EXCAS of a transaction, at a time or with a buffer that is refused.
     fn refused_write(&mut self, rng: &mut Rng, words: &[Vec<u8>]) -> Result<(), String> {
         let (time, room) = rng.pick(&[(MAX_TIME + 1, 128), (0, 127), (u64::MAX, 0)]);
-        let (number, _) = self.call(time, words, room);
+        let (number, _) = self.call(time, words, room)?;
         self.summary.refused_writes += 1;
         if number == 0 {
             return Err("an EXCAS out of range is answered".into());
@@ -156,18 +206,46 @@ where
         let time = self.live_time(rng);
         let faults = if rng.chance(20) { Faults::random(rng) } else { Faults::NONE };
         let words = loop {
-            let words = commands::command_words(rng, &faults, &self.table, time);
+            let part = &self.table[self.part(self.view)];
+            let words = commands::command_words(rng, &faults, part, time);
             if words.get(1) != Some(&self.key) {
                 break words;
             }
         };
-        let (number, _) = self.call(time, &words, 128);
+        let (number, _) = self.call(time, &words, 128)?;
         if number != 0 {
             self.summary.refused += 1;
             return Ok(());
         }
         self.summary.others += 1;
         self.summary.bitfields += usize::from(words[0].eq_ignore_ascii_case(b"BITFIELD"));
+        Ok(())
+    }
+
+    /// Any call of the other party at any time, often on its record with the same
+    /// key.
+    pub fn foreign_call(&mut self, rng: &mut Rng) -> Result<(), String> {
+        let View::SharedBy { party, boundary } = self.view else {
+            panic!("there is no other party");
+        };
+        let view = View::SharedBy { party: other(party), boundary };
+        let faults = if rng.chance(30) { Faults::random(rng) } else { Faults::NONE };
+        let time = if faults.has(2) { MAX_TIME + 1 } else { words::time(rng) };
+        let room = if faults.has(3) { rng.below(128) } else { 128 };
+        let part = &self.table[self.part(view)];
+        let mut words = commands::command_words(rng, &faults, part, time);
+        if let (true, Some(key)) = (rng.chance(30), words.get_mut(1)) {
+            key.clone_from(&self.key);
+        }
+        let before = self.table.clone();
+        let (number, _) = self.call_in(view, time, &words, room)?;
+        let wrote = self.table != before;
+        match number {
+            0 => self.summary.foreign += 1,
+            _ => self.summary.foreign_refused += 1,
+        }
+        self.summary.foreign_writes += usize::from(wrote);
+        self.summary.foreign_same_key += usize::from(wrote && words[1] == self.key);
         Ok(())
     }
 
@@ -189,7 +267,7 @@ where
         }
         let before = self.table.clone();
         let mut reply = vec![0x5a; room];
-        let answer = (self.store)(&mut self.table, time, &command, &mut reply);
+        let answer = (self.store)(self.view, &mut self.table, time, &command, &mut reply);
         self.summary.refused += 1;
         if answer.number == 0 {
             return Err(format!("a call that must be refused is answered: {words:?}"));

@@ -31,6 +31,12 @@ left-7 c = left-6 (c .before .before .before) ∙ rw (sym (c .before .same7 .ens
 left-8 : (c : tie.Else8) → let w = c .before .before .before .before .before .before .before .before .before .before .before .before .before .before .before .before .before .before .before .before .before .before .before .before .before .args .w .now in look w switches ≡ look w (drop 8 switches)
 left-8 c = left-7 (c .before .before .before) ∙ rw (sym (c .before .same8 .ensures) ∙ c .if8 .left)
 
+left-9 : (c : tie.Else9) → let w = c .before .before .before .before .before .before .before .before .before .before .before .before .before .before .before .before .before .before .before .before .before .before .before .before .before .before .before .before .args .w .now in look w switches ≡ look w (drop 9 switches)
+left-9 c = left-8 (c .before .before .before) ∙ rw (sym (c .before .same9 .ensures) ∙ c .if9 .left)
+
+left-10 : (c : tie.Else10) → let w = c .before .before .before .before .before .before .before .before .before .before .before .before .before .before .before .before .before .before .before .before .before .before .before .before .before .before .before .before .before .before .before .args .w .now in look w switches ≡ look w (drop 10 switches)
+left-10 c = left-9 (c .before .before .before) ∙ rw (sym (c .before .same10 .ensures) ∙ c .if10 .left)
+
 pub spelled-spec : {M : Type 1} → statement M
 spelled-spec =
     tie.close
@@ -43,4 +49,6 @@ spelled-spec =
     (λ c. search needs) (λ c κs. search needs) (λ c. sym (ap switchFrom (left-5 (c .before .before .before)) ∙ rw (sym (c .before .same6 .ensures) ∙ c .if6 .taken)))
     (λ c. search needs) (λ c κs. search needs) (λ c. sym (ap switchFrom (left-6 (c .before .before .before)) ∙ rw (sym (c .before .same7 .ensures) ∙ c .if7 .taken)))
     (λ c. search needs) (λ c κs. search needs) (λ c. sym (ap switchFrom (left-7 (c .before .before .before)) ∙ rw (sym (c .before .same8 .ensures) ∙ c .if8 .taken)))
-    (λ c. sym (ap switchFrom (left-8 c))))
+    (λ c. search needs) (λ c κs. search needs) (λ c. sym (ap switchFrom (left-8 (c .before .before .before)) ∙ rw (sym (c .before .same9 .ensures) ∙ c .if9 .taken)))
+    (λ c. search needs) (λ c κs. search needs) (λ c. sym (ap switchFrom (left-9 (c .before .before .before)) ∙ rw (sym (c .before .same10 .ensures) ∙ c .if10 .taken)))
+    (λ c. sym (ap switchFrom (left-10 c))))

@@ -1,5 +1,5 @@
 -- `fault::tell_faults`: the slots that are left fall, and those that are read lie in the table.
-use Prim.Native.Nat.{_≤_, _-_, _/_}
+use Prim.Native.Nat.{_-_, _/_}
 use mathlib.Core.Path.{_≡_}
 use lib.ListN.{length}
 use borrow.Author.Needs.{needs}
@@ -7,10 +7,10 @@ use Rattle.inspection.proofs.fault.tell_faults.Statement.{statement}
 use Rattle.inspection.proofs.fault.tell_faults.Tie as tie
 
 abbrev Inv-loop : tie.InvT-loop
-Inv-loop table path n i₀ i = n ≡ length table / 128
+Inv-loop table boundary path n i₀ i = n ≡ length table / 128
 
 abbrev μ-loop : tie.MeasureT-loop
-μ-loop table path n i₀ i = n - i
+μ-loop table boundary path n i₀ i = n - i
 
 pub tell-faults-spec : {M : Type 1} → statement M
 tell-faults-spec =

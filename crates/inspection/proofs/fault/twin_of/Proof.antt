@@ -7,10 +7,10 @@ use Rattle.inspection.proofs.fault.twin_of.Statement.{statement}
 use Rattle.inspection.proofs.fault.twin_of.Tie as tie
 
 abbrev Inv-loop : tie.InvT-loop
-Inv-loop table r slot n i₀ i = (i ≤ slot) × (n ≡ length table / 128)
+Inv-loop table r start slot n i₀ i = (start ≤ i) × (i ≤ slot) × (n ≡ length table / 128)
 
 abbrev μ-loop : tie.MeasureT-loop
-μ-loop table r slot n i₀ i = slot - i
+μ-loop table r start slot n i₀ i = slot - i
 
 pub twin-of-spec : {M : Type 1} → statement M
 twin-of-spec =

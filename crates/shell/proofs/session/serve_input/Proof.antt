@@ -4,10 +4,10 @@ use Rattle.shell.proofs.session.serve_input.Statement.{statement}
 use Rattle.shell.proofs.session.serve_input.Tie as tie
 
 abbrev Inv-loop : tie.InvT-loop
-Inv-loop path clock bytes₀ buffer₀ at₀ turns₀ bytes buffer at turns = Unit {0}
+Inv-loop path caller bytes₀ buffer₀ at₀ turns₀ bytes buffer at turns = Unit {0}
 
 abbrev μ-loop : tie.MeasureT-loop
-μ-loop path clock bytes₀ buffer₀ at₀ turns₀ bytes buffer at turns = turns
+μ-loop path caller bytes₀ buffer₀ at₀ turns₀ bytes buffer at turns = turns
 
 pub serve-input-spec : {M : Type 1} → statement M
 serve-input-spec =

@@ -1,0 +1,2 @@
+-- Laws of a reported value.
+pub mod Showing

@@ -1,0 +1,3 @@
+pub mod Separation
+pub mod SharedHistory
+pub mod WrongShared

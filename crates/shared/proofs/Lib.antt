@@ -1,0 +1,2 @@
+-- Laws of what is shown in a part.
+pub mod Places
