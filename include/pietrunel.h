@@ -10,6 +10,12 @@
  * BITFIELD. EXINCRBY with NONEGATIVE makes 0 of a sum below 0, however far below; after that it tests
  * the sum against 64 signed bits, MIN and MAX.
  *
+ * A number in a command is an optional plus or minus and one to twenty digits, extra zeros allowed:
+ * +5 and 007 are numbers, -0 is 0, and after # an offset may be +5 or 007 too. The stored value that
+ * EXINCRBY reads has the same form. Numbers are written, in a reply and by EXINCRBY, in the short form:
+ * 0, or an optional minus and digits that begin with 1 to 9. The counts and lengths of RESP2 and the
+ * widths of types are read in that form alone, without a minus.
+ *
  * BITFIELD key [GET type offset | SET type offset number | INCRBY type offset increment
  *               | OVERFLOW WRAP|SAT|FAIL] ...
  * Subcommands run left to right on the value, and the reply is the array of their answers: GET the
@@ -30,8 +36,8 @@
  * two on one table may run together. Calls of pietrunel_feed with one buffer of held bytes must be
  * ordered too.
  *
- * Size on x86-64: a call takes less than 5 KiB of stack (measured: 4,280 bytes, a shared one 4,624, and
- * what memset takes), the library less than 34 KiB of code and constants (measured: 32.5 KiB).
+ * Size on x86-64: a call takes less than 5 KiB of stack (measured: 4,264 bytes, a shared one 4,616, and
+ * what memset takes), the library less than 34 KiB of code and constants (measured: 30.7 KiB).
  * bench/footprint measures both: the stack by the frames along the deepest chain of calls in the
  * machine code, the rest by `size`.
  *

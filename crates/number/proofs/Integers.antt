@@ -1,5 +1,5 @@
 -- Signed numbers of 64 bits by the two naturals of which they are the difference, as the model has them.
-use mathlib.Core.Path.{_≡_, refl, sym, _∙_}
+use mathlib.Core.Path.{_≡_, refl, sym, ap, _∙_}
 use Prim.Native.Nat.{ℕ, zero, suc, _+_, _*_, _^_, _≤_, _<_}
 use native.Mathlib.Nat.{zero-mul}
 use native.Mathlib.Omega.{arith}
@@ -71,6 +71,14 @@ dn-mul (negsuc n) k = dn-neg (pos (suc n * k))
 pub abs-neg : (m : ℕ) → natAbs (negℤ (pos m)) ≡ m
 abs-neg zero = refl
 abs-neg (suc m) = refl
+
+-- the parts of a number that is 0 or below
+module _ {z : ℤ} (e : z ≡ negℤ (pos (natAbs z))) where
+  pub up-none : up z ≡ 0
+  up-none = ap up e ∙ up-neg (pos (natAbs z))
+
+  pub dn-abs : dn z ≡ natAbs z
+  dn-abs = ap dn e ∙ dn-neg (pos (natAbs z))
 
 -- minus m is an i64
 pub neg-fits : (m : ℕ) → m ≤ 2 ^ 63 → SFits w64 (negℤ (pos m))

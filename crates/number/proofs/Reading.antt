@@ -6,15 +6,15 @@ use mathlib.Core.List.{List, [], _∷_}
 use mathlib.Core.Option.{Option, none, some, Option·map}
 use Prim.Native.Nat.{ℕ, zero, suc, _+_, _-_, _*_, _^_, _≤_, _<_}
 use native.Mathlib.Omega.{arith}
-use lib.Dec.{ltb}
+use lib.Dec.{ltb, eqb}
 use lib.ListN.{length, getD, drop, take, length-drop}
 use lib.Seq.{take-all}
 use lib.IntN.{ℤ, pos, negsuc, negℤ}
-use borrow.Author.Tests.{le-leb, lt-leb, le-ltb, lt-ltb, ne-eqb, leb-true, leb-false, ltb-true, ltb-false}
+use borrow.Author.Tests.{le-leb, lt-leb, le-ltb, lt-ltb, ne-eqb, leb-true, leb-false, ltb-true, ltb-false, eqb-true, eqb-false}
 use Rattle.model.specs.Optional.{_>>=_, only}
-use Rattle.model.specs.Number.{isDigit, readDigits, readPositive, readInt, isSigned, natural, readBelow, readSigned, signedLimit}
+use Rattle.model.specs.Number.{isDigit, readDigits, readMagnitude, readInt, isSigned, natural, readBelow, readSigned, signedLimit}
 use Rattle.model.proofs.Basics.{only-some, map-some}
-use Rattle.number.specs.Answer.{signedFrom, negativeFrom}
+use Rattle.number.specs.Answer.{signLength, signedFrom, negativeFrom}
 use Rattle.number.specs.declared.Signed.{Signed}
 use Rattle.number.specs.declared.Signed.the-variants.{Value, Bad}
 
@@ -95,26 +95,13 @@ pub stays-bad : (o : Option ℕ) (s : List ℕ) → Bad ≡ negativeFrom o → B
 stays-bad none s e = refl
 stays-bad (some n) s e = sym (past n s (out n e))
 
--- the first digit is not 0
-pub positive-none : (s : List ℕ) → length s ≡ 0 → Bad ≡ negativeFrom (readPositive s)
-positive-none [] e = refl
-positive-none (c ∷ s) e = absurd (omega arith)
-
-pub positive-zero : (s : List ℕ) → (length s ≡ 0 → ⊥) → getD s 0 0 ≡ 48 → Bad ≡ negativeFrom (readPositive s)
-positive-zero [] n e = absurd (n refl)
-positive-zero (c ∷ s) n e = simp e
-
-pub positive-digits : (s : List ℕ) → (length s ≡ 0 → ⊥) → (getD s 0 0 ≡ 48 → ⊥) → readPositive s ≡ readDigits 0 s
-positive-digits [] n e = absurd (n refl)
-positive-digits (c ∷ s) n e = simp (ne-eqb c 48 e)
-
 -- ---- signed numbers
 
 -- without a minus
 abbrev pub plainFrom : Option ℕ → Signed
 plainFrom o = signedFrom (only isSigned (Option·map pos o))
 
-pub plain-bad : (o : Option ℕ) → Bad ≡ negativeFrom o → plainFrom o ≡ Bad
+plain-bad : (o : Option ℕ) → Bad ≡ negativeFrom o → plainFrom o ≡ Bad
 plain-bad none e = refl
 plain-bad (some n) e = let h = out n e in simp (le-ltb n (2 ^ 63) (omega arith))
 
@@ -130,27 +117,44 @@ unfolding readSigned
 text-none [] e = refl
 text-none (c ∷ s) e = absurd (omega arith)
 
-pub text-minus : (s : List ℕ) → (length s ≡ 0 → ⊥) → getD s 0 0 ≡ 45 → signedFrom (readSigned s) ≡ negativeFrom (readPositive (drop 1 s))
+-- what stands after the sign
+abbrev pub unsigned : List ℕ → List ℕ
+unsigned s = drop (signLength (getD s 0 0)) s
+
+pub text-minus : (s : List ℕ) → (length s ≡ 0 → ⊥) → getD s 0 0 ≡ 45 → signedFrom (readSigned s) ≡ negativeFrom (readMagnitude (unsigned s))
 unfolding readSigned
 text-minus [] n e = absurd (n refl)
 text-minus (c ∷ s) n e = simp e
 
-pub text-zero : (s : List ℕ) → length s ≡ 1 → getD s 0 0 ≡ 48 → Value (pos 0) ≡ signedFrom (readSigned s)
+pub text-other : (s : List ℕ) → (length s ≡ 0 → ⊥) → (getD s 0 0 ≡ 45 → ⊥) → signedFrom (readSigned s) ≡ plainFrom (readMagnitude (unsigned s))
 unfolding readSigned
-text-zero [] l e = absurd (omega arith)
-text-zero (c ∷ []) l e = simp e
-text-zero (c ∷ d ∷ s) l e = absurd (omega arith)
+text-other [] n e = absurd (n refl)
+text-other (c ∷ s) n e = go (eqb c 43) refl
+  where
+    go : (b : Bool) → eqb c 43 ≡ b → signedFrom (readSigned (c ∷ s)) ≡ plainFrom (readMagnitude (unsigned (c ∷ s)))
+    go true f = simp (ne-eqb c 45 e, f)
+    go false f = simp (ne-eqb c 45 e, f)
 
-pub text-plain : (s : List ℕ) → (length s ≡ 0 → ⊥) → (getD s 0 0 ≡ 45 → ⊥) → (length s ≡ 1 → getD s 0 0 ≡ 48 → ⊥)
-    → signedFrom (readSigned s) ≡ plainFrom (readPositive s)
-unfolding readSigned
-text-plain [] n e z = absurd (n refl)
-text-plain (c ∷ []) n e z = simp (ne-eqb c 45 e, ne-eqb c 48 (z refl))
-text-plain (c ∷ d ∷ s) n e z = simp (ne-eqb c 45 e)
+-- what is out of range below 0 is so above
+pub text-bad : (s : List ℕ) → (length s ≡ 0 → ⊥) → Bad ≡ negativeFrom (readMagnitude (unsigned s)) → Bad ≡ signedFrom (readSigned s)
+text-bad s n e = go (eqb (getD s 0 0) 45) refl
+  where
+    go : (b : Bool) → eqb (getD s 0 0) 45 ≡ b → Bad ≡ signedFrom (readSigned s)
+    go true f = e ∙ sym (text-minus s n (eqb-true (getD s 0 0) 45 f))
+    go false f = sym (text-other s n (eqb-false (getD s 0 0) 45 f) ∙ plain-bad (readMagnitude (unsigned s)) e)
 
--- the part after the first byte
-pub rest-is : (s : List ℕ) → take (length s - 1) (drop 1 s) ≡ drop 1 s
-rest-is s = take-all (length s - 1) (drop 1 s) (simp length-drop (omega arith))
+-- the sign is part of the text
+pub sign-least : (s : List ℕ) → (length s ≡ 0 → ⊥) → signLength (getD s 0 0) ≤ length s
+sign-least s n = go (eqb (getD s 0 0) 45) (eqb (getD s 0 0) 43)
+  where
+    go : (a b : Bool) → cond a 1 (cond b 1 0) ≤ length s
+    go true b = omega arith
+    go false true = omega arith
+    go false false = omega arith
+
+-- the part from a place on
+pub rest-is : (k : ℕ) (s : List ℕ) → take (length s - k) (drop k s) ≡ drop k s
+rest-is k s = take-all (length s - k) (drop k s) (simp length-drop (omega arith))
 
 -- ---- natural numbers below a limit
 

@@ -2,6 +2,7 @@
 use Prim.Native.Nat.{ℕ}
 use mathlib.Core.Bool.{cond}
 use mathlib.Core.Option.{Option, none, some, Option·map}
+use lib.Dec.{eqb}
 use lib.IntN.{ℤ, pos, negℤ}
 use lib.Signed.{nonNeg}
 use Rattle.model.specs.Optional.{only}
@@ -12,6 +13,10 @@ use Rattle.number.specs.declared.Natural.{Natural}
 use Rattle.number.specs.declared.Natural.the-variants as Natural
 use Rattle.number.specs.declared.Sum.{Sum}
 use Rattle.number.specs.declared.Sum.the-variants.{Fits, Under, Over}
+
+-- how many bytes the sign of a text takes, by its first byte: 1 for a minus or a plus
+abbrev pub signLength : ℕ → ℕ
+signLength c = cond (eqb c 45) 1 (cond (eqb c 43) 1 0)
 
 -- a signed number, or none
 abbrev pub signedFrom : Option ℤ → Signed

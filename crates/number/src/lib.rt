@@ -3,10 +3,11 @@ ghost use mathlib.Core.Path.{_≡_};
 ghost use mathlib.Core.List.{[], _∷_};
 ghost use Prim.Native.Nat.{ℕ, suc, _+_, _-_, _*_, _/_, _%_, _^_, _≤_, _<_};
 ghost use lib.ListN.{length};
+ghost use lib.Dec.{leb};
 ghost use lib.IntN.{pos, negℤ, natAbs, _+ℤ_};
-ghost use Rattle.model.specs.Number.{readDigits, readPositive, readSigned, readBelow, readVersion, readFlags, signedLimit, natText, intText};
+ghost use Rattle.model.specs.Number.{readDigits, readMagnitude, readSigned, readBelow, readVersion, readFlags, signedLimit, natText, intText};
 ghost use Rattle.slice.specs.Wrote.{Wrote};
-ghost use Rattle.number.specs.Answer.{signedFrom, naturalFrom, sumFrom, negativeFrom};
+ghost use Rattle.number.specs.Answer.{signLength, signedFrom, naturalFrom, sumFrom, negativeFrom};
 
 // A signed number that a text says, if it says one in range.
 pub enum Signed {
@@ -31,39 +32,49 @@ pub enum Sum {
 const LEAST: i64 = -9223372036854775808;
 
 const MOST: i64 = 9223372036854775807;
-// Ten times a number below this does not fit.
+// Any digit can follow a number above this one, and none a number below it.
 const LEAST_TENTH: i64 = LEAST / 10;
+
+// Whether the digit d can follow `acc`, which is 0 or below, within 64 signed bits.
+fn has_room(acc: i64, d: i64) -> bool
+    requires { ⌜ (acc ≡ negℤ (pos (natAbs acc))) × (d ≡ pos (natAbs d)) × (natAbs d ≤ 9) ⌝ }
+    ensures { λ r. ⌜ r ≡ leb (10 * natAbs acc + natAbs d) signedLimit ⌝ }
+{
+    if LEAST_TENTH < acc {
+        return true;
+    }
+    if acc < LEAST_TENTH {
+        return false;
+    }
+    d <= 8
+}
 
 // The number `acc`, which is 0 or below, with the digit `c` after it. Below 0 the range has one number more.
 fn push(acc: i64, c: u8) -> Signed
     requires { ⌜ acc ≡ negℤ (pos (natAbs acc)) ⌝ }
     ensures { λ r. ⌜ r ≡ negativeFrom (readDigits (natAbs acc) (c ∷ [])) ⌝ }
 {
-    if c < b'0' {
+    let d = c as i64 - 48;
+    if d < 0 {
         return Signed::Bad;
     }
-    if b'9' < c {
+    if 9 < d {
         return Signed::Bad;
     }
-    let d = (c - b'0') as i64;
-    if acc < LEAST_TENTH {
+    if !has_room(acc, d) {
         return Signed::Bad;
     }
-    let tens = acc * 10;
-    if tens < LEAST + d {
-        return Signed::Bad;
-    }
-    Signed::Value(tens - d)
+    Signed::Value(acc * 10 - d)
 }
 
-// Minus the number that digits say, of which the first is not 0.
+// Minus the number that digits say, one to twenty of them.
 fn read_negative(s: &[u8]) -> Signed
-    ensures { λ r. ⌜ r ≡ negativeFrom (readPositive (now (s .entry))) ⌝ }
+    ensures { λ r. ⌜ r ≡ negativeFrom (readMagnitude (now (s .entry))) ⌝ }
 {
     if s.len() == 0 {
         return Signed::Bad;
     }
-    if s[0] == b'0' {
+    if 20 < s.len() {
         return Signed::Bad;
     }
     let mut acc: i64 = 0;
@@ -78,24 +89,35 @@ fn read_negative(s: &[u8]) -> Signed
     Signed::Value(acc)
 }
 
-// The number that a text says, within 64 signed bits.
+// How many bytes the sign takes of a text that begins with this byte.
+fn sign_length(first: u8) -> usize
+    ensures { λ r. ⌜ r ≡ signLength first ⌝ }
+{
+    if first == b'-' {
+        return 1;
+    }
+    if first == b'+' {
+        return 1;
+    }
+    0
+}
+
+// The number that a text says, an optional plus or minus and digits, within 64 signed bits. The digits are read below 0, and without a minus the
+// sign is changed.
 pub fn read_signed(s: &[u8]) -> Signed
     ensures { λ r. ⌜ r ≡ signedFrom (readSigned (now (s .entry))) ⌝ }
 {
     if s.len() == 0 {
         return Signed::Bad;
     }
-    if s[0] == b'-' {
-        return read_negative(&s[1..]);
-    }
-    if s.len() == 1 {
-        if s[0] == b'0' {
-            return Signed::Value(0);
-        }
-    }
-    let Signed::Value(v) = read_negative(s) else {
+    let first = s[0];
+    let from = sign_length(first);
+    let Signed::Value(v) = read_negative(&s[from..]) else {
         return Signed::Bad;
     };
+    if first == b'-' {
+        return Signed::Value(v);
+    }
     if v == LEAST {
         return Signed::Bad;
     }

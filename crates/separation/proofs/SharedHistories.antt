@@ -1,20 +1,19 @@
 -- The premises of demand 3 of a shared table are met by a worked history, so the claim is not empty.
-use Prim.Native.Nat.{ℕ, _+_}
+use Prim.Native.Nat.{ℕ}
 use Prim.Native.String.{String}
 use mathlib.Core.Path.{_≡_, refl}
 use mathlib.Core.List.{List, [], _∷_, map}
-use mathlib.Core.Option.{some}
 use native.Mathlib.Omega.{arith}
 use lib.ListN.{replicate}
-use Rattle.model.specs.Bytes.{text, uppers}
-use Rattle.model.specs.Number.{readVersion}
+use Rattle.model.specs.Bytes.{text}
 use Rattle.model.specs.Table.{form128, used, tableBytes}
-use Rattle.model.specs.Resp.{encode, decode}
-use Rattle.model.specs.History.{Label, outside, reads, writes, Event, Entry, gotBy, committed}
-use Rattle.model.specs.Serializable.{Holds, Reads, Writes, Lawful}
+use Rattle.model.specs.Resp.{encode}
+use Rattle.model.specs.History.{Label, outside, reads, writes, committed}
+use Rattle.model.specs.Serializable.{Holds, Lawful}
 use Rattle.model.specs.Partition.{Party, owner, installer}
 use Rattle.model.specs.Call.{callIn}
 use Rattle.model.proofs.Compute.{computing}
+use Rattle.model.proofs.Histories.{update, get, swap}
 use Rattle.separation.specs.SharedHistory.{SharedEvent, runShared, finalShared, ownEntries, SharedSerial}
 use Rattle.separation.proofs.SharedSerial.{shared-serializable128}
 
@@ -26,10 +25,6 @@ start =
     ∷ used (record { key = text "foo"; value = text "100"; flags = 9; version = 1; expiry = 5000 })
     ∷ used (record { key = text "bar"; value = text "x"; flags = 0; version = 7; expiry = 0 })
     ∷ [])
-
--- transaction t writes the digit t before the text
-abbrev update : ℕ → List ℕ → List ℕ
-update t s = (48 + t) ∷ s
 
 abbrev event : Party → Label → ℕ → List String → SharedEvent
 event p l time ws = record { party = p; event = record { label = l; time = time; command = encode (map text ws); reply = replicate 128 0 } }
@@ -48,26 +43,6 @@ history =
     ∷ event owner outside 9000 []
     ∷ event owner (writes 2) 9000 ("EXSET" ∷ "bar" ∷ "z" ∷ [])
     ∷ []
-
-get : (e : Event) (name : List ℕ) (options : List (List ℕ)) → decode (e .command) ≡ some (name ∷ text "foo" ∷ options) → uppers name ≡ text "EXGET"
-    → Reads (text "foo") e
-get e name options d n = record { name = name; options = options; decoded = d; exget = n }
-
-swap : (t : ℕ) (past : List Entry) (e : Event) (v : String) (n : ℕ) (name version option : List ℕ)
-    → gotBy t past ≡ some (record { text = text v; version = n })
-    → decode (e .command) ≡ some (name ∷ text "foo" ∷ update t (text v) ∷ version ∷ option ∷ [])
-    → uppers name ≡ text "EXCAS" → readVersion version ≡ some n → uppers option ≡ text "KEEPTTL" → Writes (text "foo") update t past e
-swap t past e v n name version option g d a b c = record {
-  got = record { text = text v; version = n };
-  gotten = g;
-  name = name;
-  version = version;
-  option = option;
-  decoded = d;
-  excas = a;
-  same-version = b;
-  keepttl = c;
-}
 
 history-holds : Holds form128 1 (text "foo") start
 unfolding computing

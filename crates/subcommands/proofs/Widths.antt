@@ -18,7 +18,7 @@ use Rattle.subcommands.specs.Words.{widthFrom}
 
 -- ---- the number that digits say
 
-one-digit : (d : ℕ) → d ≤ 9 → readNat ((48 + d) ∷ []) ≡ some d
+pub one-digit : (d : ℕ) → d ≤ 9 → readNat ((48 + d) ∷ []) ≡ some d
 one-digit zero h = refl
 one-digit (suc d) h = rw (ne-eqb (48 + suc d) 48 (λ z. omega arith), digit (suc d) (omega arith)) (ap {B = Option ℕ} some (omega arith))
 

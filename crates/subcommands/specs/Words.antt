@@ -3,7 +3,8 @@ use Prim.Native.Nat.{ℕ}
 use mathlib.Core.Bool.{Bool, cond}
 use mathlib.Core.List.{List, [], _∷_}
 use mathlib.Core.Option.{Option, none, some}
-use lib.Dec.{ltb}
+use lib.Dec.{ltb, eqb}
+use lib.ListN.{length}
 use lib.IntN.{ℤ}
 use Rattle.model.specs.Optional.{_>>=_, only}
 use Rattle.model.specs.Checked.{Checked, refuse, ok}
@@ -15,6 +16,7 @@ use Rattle.command.specs.Subcommand.{modelInt, modelField, modelMode, modelSub}
 use Rattle.command.specs.declared.subcommand.Field.{Field}
 use Rattle.command.specs.declared.subcommand.Operation.{Operation}
 use Rattle.command.specs.declared.subcommand.Operation.the-variants.{Get, Set, Incrby}
+use Rattle.resp.specs.Words.{digitAt}
 use Rattle.subcommands.specs.declared.word.TypeRead.{TypeRead}
 use Rattle.subcommands.specs.declared.word.TypeRead.the-variants as TypeRead
 use Rattle.subcommands.specs.declared.word.OffsetRead.{OffsetRead}
@@ -28,6 +30,10 @@ use Rattle.subcommands.specs.declared.word.SubRead.the-variants as SubRe
 abbrev pub widthFrom : Option ℕ → ℕ
 widthFrom none = 0
 widthFrom (some n) = cond (ltb n 100) n 0
+
+-- the digit that is the whole word, else 10
+abbrev pub onlyDigit : List ℕ → ℕ
+onlyDigit w = cond (eqb (length w) 1) (digitAt w 0) 10
 
 abbrev pub typeOf : (signed : Bool) (width : ℕ) → model.IntType
 typeOf s w = record { signed = s; width = w }

@@ -15,7 +15,7 @@ ghost use Rattle.model.specs.Number.{readNat};
 ghost use Rattle.model.specs.Field.{isIntType};
 ghost use Rattle.model.specs.Subcommands.{typeIn, offsetIn, fieldIn};
 ghost use Rattle.command.specs.Subcommand.{modelInt};
-ghost use Rattle.subcommands.specs.Words.{widthFrom, typeOf, checkedTypeRead, checkedOffsetRead, checkedFieldRead, checkedSubRead, setBy, subBy};
+ghost use Rattle.subcommands.specs.Words.{widthFrom, onlyDigit, typeOf, checkedTypeRead, checkedOffsetRead, checkedFieldRead, checkedSubRead, setBy, subBy};
 
 // The type that a word says, if it says one.
 enum TypeRead {
@@ -105,10 +105,24 @@ fn type_in(w: &[u8]) -> TypeRead
     TypeRead::Wrong
 }
 
-// The first bit that a word says. After # it counts in fields of the type.
+// The digit that is the whole word, and 10 where there is more or none.
+fn only_digit(w: &[u8]) -> usize
+    ensures { λ r. ⌜ r ≡ onlyDigit (now (w .entry)) ⌝ }
+{
+    if w.len() == 1 {
+        return resp::digit_at(w, 0);
+    }
+    10
+}
+
+// The first bit that a word says. After # it counts in fields of the type. One digit alone, as most offsets are, is not read as a number word.
 fn offset_in(int: IntType, w: &[u8]) -> OffsetRead
     ensures { λ r. ⌜ checkedOffsetRead r ≡ given 9 (offsetIn (modelInt int) (now (w .entry))) ⌝ }
 {
+    let digit = only_digit(w);
+    if digit < 10 {
+        return OffsetRead::Bit(digit as u64);
+    }
     if w.len() == 0 {
         return OffsetRead::Wrong;
     }

@@ -112,10 +112,15 @@ fn read_field(kind: &str, offset: &str, seen: &mut Seen) -> Field {
     let count = offset.strip_prefix('#');
     seen.add("offset in fields", count.is_some());
     let offset = match count {
-        Some(count) => count.parse::<u64>().unwrap() * width,
-        None => offset.parse().unwrap(),
+        Some(count) => natural(count) * width,
+        None => natural(offset),
     };
     Field { signed, width, offset }
+}
+
+/// A number that is not below 0; it may be written as -0.
+fn natural(text: &str) -> u64 {
+    text.parse::<i64>().unwrap().try_into().unwrap()
 }
 
 impl Seen {

@@ -88,23 +88,26 @@ fn wrong_length(rng: &mut Rng, command: &mut Vec<u8>) {
 /// A text in the place of this number.
 fn other_number(rng: &mut Rng, number: usize) -> String {
     let big = |power: u32| ((1u128 << power) + number as u128).to_string();
-    match rng.below(16) {
+    match rng.below(18) {
         0 => (number + 1).to_string(),
         1 => number.saturating_sub(1).to_string(),
+        // forms that a number word may have
         2 => format!("0{number}"),
         3 => format!("+{number}"),
         4 => format!("-{number}"),
-        5 => "-1".into(),
-        6 => "0".into(),
-        7 => "".into(),
-        8 => rng.pick(&["17", "16", "512", "513", "1000", "99999999999999999999999"]).into(),
-        9 => format!("{number} "),
-        10 => format!(" {number}"),
-        11 => format!("{number}\r"),
-        12 => big(32),
-        13 => big(64),
-        14 => big(rng.pick(&[8, 16])),
-        _ => "-0".into(),
+        5 => format!("{number:0>3}"),
+        6 => format!("{number:0>20}"),
+        7 => "-0".into(),
+        8 => "-1".into(),
+        9 => "0".into(),
+        10 => "".into(),
+        11 => rng.pick(&["17", "16", "512", "513", "1000", "99999999999999999999999"]).into(),
+        12 => format!("{number} "),
+        13 => format!(" {number}"),
+        14 => format!("{number}\r"),
+        15 => big(32),
+        16 => big(64),
+        _ => big(rng.pick(&[8, 16])),
     }
 }
 

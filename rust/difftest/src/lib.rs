@@ -2,11 +2,13 @@
 //! reference; so must the rival of the benchmark.
 //!
 //! `case` makes one call's table, time, command and reply buffer, `bitfield_case`
-//! those of a BITFIELD. `compare` runs it on two stores; `expect` and `bitfield`
-//! hold the outcome to plain rules. `history` makes whole lists of calls on one
-//! record and checks their answers against a serial execution. `streams` makes
-//! commands in pieces, and `feed` takes one piece. `pairs` makes the files of two
-//! tables. `shared` makes and compares calls of two parties on one table.
+//! those of a BITFIELD, `number_case` those of a command with numbers. `compare`
+//! runs it on two stores; `expect` and `bitfield` hold the outcome to plain rules.
+//! `history` makes whole lists of calls on one record and checks their answers
+//! against a serial execution. `streams` makes commands in pieces, and `feed` takes
+//! one piece. `pairs` makes the files of two tables. `shared` makes and compares
+//! calls of two parties on one table. `numerals` writes numbers in every form that is
+//! read, and `number_words` finds them in a command.
 
 #![forbid(unsafe_code)]
 
@@ -24,6 +26,8 @@ pub mod fields;
 pub mod hex;
 pub mod history;
 pub mod layout;
+pub mod number_words;
+pub mod numerals;
 pub mod pairs;
 #[cfg(feature = "library")]
 pub mod printed;
@@ -68,6 +72,20 @@ pub fn bitfield_case(rng: &mut Rng) -> Case {
     let mut table = tables::good(rng, 40, now);
     tables::fill_with_bits(rng, &mut table);
     case_on(rng, &faults, "BITFIELD", table, now)
+}
+
+/// A case of a command that has number words, one of which is often wrong, with a
+/// table of at most 6 records.
+pub fn number_case(rng: &mut Rng) -> Case {
+    let faults = match rng.below(20) {
+        0..=5 => Faults::only(9),
+        6 => Faults::only(10),
+        _ => Faults::NONE,
+    };
+    let name = commands::pick_name(rng, &Faults::only(9));
+    let now = words::time(rng);
+    let table = tables::good(rng, 6, now);
+    case_on(rng, &faults, name, table, now)
 }
 
 /// A case of the command with this name, on a table that was made for a time.

@@ -1,6 +1,7 @@
 //! Random keys, values, numbers and times, with a liking for limits.
 
 use crate::layout::{MAX_KEY, MAX_TIME, MAX_VALUE};
+use crate::numerals::{bad_number, numeral};
 use crate::Rng;
 
 /// A time in range.
@@ -60,8 +61,15 @@ pub fn similar_key(rng: &mut Rng, key: &[u8]) -> Vec<u8> {
 pub fn value(rng: &mut Rng) -> Vec<u8> {
     match rng.below(12) {
         0 => Vec::new(),
-        1..=3 => (rng.below(2001) as i64 - 1000).to_string().into(),
-        4 | 5 => edge_number(rng).into(),
+        1..=3 => {
+            let (small, any) = (rng.below(2001) as i64 - 1000, number(rng));
+            let number = rng.pick(&[small, small, any]);
+            numeral(rng, number)
+        }
+        4 | 5 => {
+            let number = edge_number(rng);
+            numeral(rng, number)
+        }
         6 => bad_number(rng, MAX_VALUE),
         7 => random_text(rng, &[63, 64]),
         8 => random_text(rng, &[1, 2, 3, 10, 32]),
@@ -94,37 +102,9 @@ pub fn number(rng: &mut Rng) -> i64 {
     }
 }
 
-/// A number in its short form at or beside a limit, perhaps out of 64 bits.
-fn edge_number(rng: &mut Rng) -> String {
+/// A number at or beside a limit, perhaps out of 64 bits.
+fn edge_number(rng: &mut Rng) -> i128 {
     let limit = 1i128 << rng.pick(&[31, 32, 62, 63, 63, 63, 64]);
     let sign = rng.pick(&[1, -1]);
-    (sign * limit + rng.below(5) as i128 - 2).to_string()
-}
-
-/// A text that is no number within 64 signed bits, of at most so many bytes.
-pub fn bad_number(rng: &mut Rng, most: usize) -> Vec<u8> {
-    let text = match rng.below(9) {
-        0 => rng.pick(&["", "-", "-0", "+0", "+5", "--5", "00", "007", "-007"]).to_string(),
-        1 => rng
-            .pick(&[" 5", "5 ", "5x", "x", "1.0", "1e3", "0x10", "5\0", "5\r\n", "5:", "/5"])
-            .to_string(),
-        2 => format!("0{}", number(rng).unsigned_abs()),
-        3 => format!("+{}", number(rng).unsigned_abs()),
-        // from 2^63 up, from -2^63 - 1 down
-        4 => ((1u128 << 63) + rng.below(3) as u128).to_string(),
-        5 => (-(1i128 << 63) - 1 - rng.below(3) as i128).to_string(),
-        // what wraps to a small number in 64 bits
-        6 => ((1u128 << 64) + rng.below(100) as u128).to_string(),
-        7 => rng.pick(&["EX", "nx", "VER", "ABS", "MAX", "WITHVERSION"]).to_string(),
-        _ => {
-            let digits = rng.pick(&[20, 21, 40, 64, 65, 66, 70]);
-            "1".to_string() + &"0".repeat(digits - 1)
-        }
-    };
-    let mut bytes = text.into_bytes();
-    if bytes.len() > most {
-        // Cut short, many digits could be a number again.
-        bytes = b"007".to_vec();
-    }
-    bytes
+    sign * limit + rng.below(5) as i128 - 2
 }

@@ -3,7 +3,8 @@
 
 use difftest::compare::library;
 use difftest::history::{check, Summary};
-use difftest::{layout, settings, Answer, Rng};
+use difftest::numerals::form;
+use difftest::{layout, resp, settings, Answer, Rng};
 use reference::call;
 
 #[test]
@@ -24,8 +25,8 @@ fn the_library_runs_transactions_as_if_one_at_a_time() {
     }
     println!("{total:?}");
     let counts = [
-        total.ok, total.stale, total.refused_writes, total.reads_only, total.others,
-        total.bitfields, total.refused,
+        total.ok, total.stale, total.long_versions, total.refused_writes, total.reads_only,
+        total.others, total.bitfields, total.refused,
     ];
     assert!(counts.iter().all(|count| *count as u64 >= histories / 4), "{total:?}");
 }
@@ -132,5 +133,51 @@ fn a_write_on_another_record_is_found() {
         }
         answer
     });
+    assert!(found.is_some_and(|count| count <= 50), "{found:?}");
+}
+
+/// A store whose EXCAS takes another text for its version, where there is one.
+fn with_version(
+    other: impl Fn(&[u8]) -> Option<String>,
+) -> impl FnMut(&mut [u8], u64, &[u8], &mut [u8]) -> Answer {
+    move |table, time, command, reply| {
+        let mut words = resp::decode(command).unwrap_or_default();
+        let version = match &words[..] {
+            [name, _, _, version, ..] if name.eq_ignore_ascii_case(b"EXCAS") => other(version),
+            _ => None,
+        };
+        let Some(version) = version else {
+            return call(table, time, command, reply);
+        };
+        words[3] = version.into();
+        call(table, time, &resp::encode(&words), reply)
+    }
+}
+
+#[test]
+fn a_form_of_the_version_that_is_refused_is_found() {
+    for refused in
+        ["a plus", "a plus and twenty digits", "a plus and zeros", "twenty digits", "zeros"]
+    {
+        let found = found_after(with_version(|text| (form(text) == refused).then(|| "x".into())));
+        assert!(found.is_some_and(|count| count <= 100), "{refused}: {found:?}");
+    }
+}
+
+#[test]
+fn a_version_that_zeros_make_octal_is_found() {
+    let found = found_after(with_version(|text| {
+        let digits = std::str::from_utf8(text).ok().filter(|text| text.starts_with('0'))?;
+        Some(i64::from_str_radix(digits, 8).ok()?.to_string())
+    }));
+    assert!(found.is_some_and(|count| count <= 100), "{found:?}");
+}
+
+#[test]
+fn a_version_of_twenty_one_digits_that_is_taken_is_found() {
+    let found = found_after(with_version(|text| {
+        let rest = std::str::from_utf8(text.strip_prefix(b"0")?).ok()?;
+        (rest.len() == 20).then(|| rest.to_string())
+    }));
     assert!(found.is_some_and(|count| count <= 50), "{found:?}");
 }

@@ -1,6 +1,6 @@
 //! RESP2: a command as an array of bulk strings, and the replies.
 
-use crate::number::read_version;
+use crate::number::read_short;
 
 /// The longest command.
 pub const COMMAND_LIMIT: usize = 512;
@@ -39,7 +39,7 @@ fn read_line(mark: u8, bytes: &[u8]) -> Option<(usize, &[u8])> {
     let rest = bytes.strip_prefix(&[mark])?;
     let digits = rest.iter().take_while(|byte| byte.is_ascii_digit()).count();
     let (number, rest) = rest.split_at(digits);
-    Some((read_version(number)? as usize, rest.strip_prefix(b"\r\n")?))
+    Some((read_short(number)? as usize, rest.strip_prefix(b"\r\n")?))
 }
 
 /// A line of a mark and a number.
@@ -126,12 +126,17 @@ mod tests {
     #[test]
     fn refuses_other_lengths() {
         for length in [
-            "", "-1", "+1", "01", "1 ", " 1", "1a", "2", "0", "1\r", "18446744073709551617",
-            "4294967297", "65537", "257", "1000",
+            "", "-1", "+1", "01", "001", "+01", "-0", "+0", "00", "00000000000000000001", "1 ",
+            " 1", "1a", "2", "0", "1\r", "18446744073709551617", "4294967297", "65537", "257",
+            "1000",
         ] {
             let command = format!("*1\r\n${length}\r\na\r\n");
             assert_eq!(decode(command.as_bytes()), None, "{length:?}");
             let command = format!("*{length}\r\n$1\r\na\r\n");
+            assert_eq!(decode(command.as_bytes()), None, "{length:?}");
+        }
+        for length in ["-0", "+0", "00"] {
+            let command = format!("*1\r\n${length}\r\n\r\n");
             assert_eq!(decode(command.as_bytes()), None, "{length:?}");
         }
     }

@@ -3,7 +3,7 @@
 
 use crate::bits::{bits_of, bytes_of, Field, Overflow};
 use crate::command::look;
-use crate::number::{read_flags, read_signed, read_version};
+use crate::number::{read_flags, read_short, read_signed};
 use crate::table::VALUE_LIMIT;
 
 /// A subcommand that has an answer.
@@ -87,8 +87,9 @@ fn read_field(kind: &[u8], offset: &[u8]) -> Option<Field> {
     Some(Field { signed, width, offset: read_offset(offset, width)? })
 }
 
-/// A type is i1 to i64 or u1 to u63; the letter is a small one. It is told here
-/// by whether it is signed, and its width.
+/// A type is i1 to i64 or u1 to u63; the letter is a small one, and the width has
+/// no sign and no extra zeros. It is told here by whether it is signed, and its
+/// width.
 fn read_type(word: &[u8]) -> Option<(bool, u64)> {
     let (letter, width) = word.split_first()?;
     let (signed, widest) = match letter {
@@ -96,7 +97,7 @@ fn read_type(word: &[u8]) -> Option<(bool, u64)> {
         b'u' => (false, 63),
         _ => return None,
     };
-    let width = read_version(width)?;
+    let width = read_short(width)?;
     (1..=widest).contains(&width).then_some((signed, width))
 }
 
@@ -236,6 +237,7 @@ mod tests {
         for word in [
             "", "i", "u", "8", "U8", "I8", "u08", "u0", "i0", "i65", "u+8", "u-8", "i-1", "u8 ",
             " u8", "u8x", "x8", "u18446744073709551624", "i4294967297", "i257", "#8", "u8\0",
+            "+u8", "i08", "i+8", "i008", "u-0", "u00000000000000000008", "0u8",
         ] {
             assert_eq!(read_type(word.as_bytes()), None, "{word}");
         }
@@ -248,9 +250,22 @@ mod tests {
         assert_eq!(read_offset(b"#0", 5), Some(0));
         assert_eq!(read_offset(b"#7", 5), Some(35));
         assert_eq!(read_offset(b"#4294967295", 64), Some(274_877_906_880));
+        for (word, offset) in [
+            ("+5", 5),
+            ("#+5", 40),
+            ("007", 7),
+            ("#007", 56),
+            ("-0", 0),
+            ("#-0", 0),
+            ("00000000000000000009", 9),
+            ("#+00000000000000000009", 72),
+        ] {
+            assert_eq!(read_offset(word.as_bytes(), 8), Some(offset), "{word}");
+        }
         for word in [
-            "", "#", "##1", "-1", "#-1", "+5", "#+5", "007", "#007", "4294967296", "#4294967296",
-            "18446744073709551616", "1#", "# 1", "x",
+            "", "#", "##1", "-1", "#-1", "+#5", "-#0", "0#5", "#+", "#-", "#+-5", "#--0", "#0x5",
+            "4294967296", "#4294967296", "18446744073709551616", "000000000000000000005",
+            "#000000000000000000005", "1#", "# 1", "x",
         ] {
             assert_eq!(read_offset(word.as_bytes(), 8), None, "{word}");
         }
@@ -277,10 +292,23 @@ mod tests {
                 assert_eq!(incrby.is_ok(), i64::try_from(number).is_ok(), "{kind} {number}");
             }
         }
-        for number in ["x", "", "+1", "-0", "01", "1.0"] {
+        for number in ["x", "", "+", "+-1", "1.0", "000000000000000000001"] {
             let words = [&b"INCRBY"[..], b"u8", b"0", number.as_bytes()];
             assert_eq!(read_subcommands(&subcommands_in(&words).unwrap()), None, "{number}");
         }
+    }
+
+    #[test]
+    fn numbers_have_signs_and_zeros() {
+        let field = field(true, 8, 0);
+        for (text, number) in [("+5", 5), ("007", 7), ("-0", 0), ("-007", -7)] {
+            let set = read(&format!("SET i8 0 {text}"));
+            assert_eq!(set, Ok(vec![Subcommand::Set(field, number)]));
+            let incrby = read(&format!("INCRBY i8 0 {text}"));
+            assert_eq!(incrby, Ok(vec![Subcommand::Incrby(field, number, Overflow::Wrap)]));
+        }
+        assert_eq!(read("SET i8 0 +0128"), Err(9));
+        assert_eq!(read("SET u8 0 -007"), Err(9));
     }
 
     #[test]

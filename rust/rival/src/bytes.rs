@@ -92,22 +92,23 @@ fn not_digits(v: u64) -> u64 {
 
 const ZEROS: u64 = 0x3030_3030_3030_3030;
 
-/// A number word or a stored number: `0`, or an optional minus and digits that begin with 1 to 9,
-/// within 64 signed bits. Eight bytes before `p` must be readable.
+/// A number word or a stored number: an optional plus or minus and one to twenty digits, within 64
+/// signed bits. Eight bytes before `p` must be readable.
 #[inline(always)]
 pub unsafe fn number(p: *const u8, len: usize) -> Option<i64> {
-    if len == 0 || len > 20 {
+    if len.wrapping_sub(1) > 20 {
         return None;
+    }
+    if len == 1 && *p == b'0' {
+        return Some(0);
     }
     let minus = *p == b'-';
-    let n = len - minus as usize;
+    // The distance from plus is 0 for plus and 2 for minus.
+    let signed = (*p).wrapping_sub(b'+') & !2 == 0;
+    let n = len - signed as usize;
     let end = p.add(len);
-    if n == 0 || n > 19 {
+    if n.wrapping_sub(1) > 19 {
         return None;
-    }
-    let first = *p.add(minus as usize);
-    if first == b'0' {
-        return if len == 1 { Some(0) } else { None };
     }
     // The load that ends with the text has the other bytes in front: they become leading zeros.
     let magnitude = if n <= 8 {
@@ -132,8 +133,12 @@ pub unsafe fn number(p: *const u8, len: usize) -> Option<i64> {
             if not_digits(low) | not_digits(middle) | not_digits(high) != 0 {
                 return None;
             }
-            // At most 19 digits: no overflow of 64 unsigned bits.
-            (eight(high) * 100_000_000 + eight(middle)) * 100_000_000 + eight(low)
+            // 923 and sixteen digits are above 2^63; up to there nothing overflows 64 bits.
+            let high = eight(high);
+            if high > 922 {
+                return None;
+            }
+            (high * 100_000_000 + eight(middle)) * 100_000_000 + eight(low)
         }
     };
     let bound = i64::MAX as u64 + minus as u64;

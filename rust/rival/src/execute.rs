@@ -191,7 +191,7 @@ pub unsafe fn execute(
                 if c.options & TIMES != 0 {
                     store64(r.add(16), c.expiry);
                 }
-                zero::<2>(r.add(48)); // the old text was a number too: at most 20 bytes
+                zero::<2>(r.add(48)); // the old text was a number too: at most 21 bytes
             } else {
                 fresh(r, &c.key, 0, 0, version, c.expiry);
             }

@@ -4,7 +4,7 @@
 use difftest::compare::Candidate;
 use difftest::layout::{records_mut, Fields, RECORD};
 use difftest::resp::encode;
-use difftest::{bitfield_case, case, settings, Answer, Case, Rng};
+use difftest::{bitfield_case, case, number_case, settings, Answer, Case, Rng};
 use reference::Shown;
 
 const RIVAL: Candidate = Candidate { name: "rival", call, current_value };
@@ -43,6 +43,16 @@ fn the_rival_agrees_with_the_reference_on_fields() {
     let mut rng = Rng::new(seed);
     for _ in 0..calls {
         compare(&bitfield_case(&mut rng));
+    }
+}
+
+#[test]
+fn the_rival_agrees_with_the_reference_on_numbers() {
+    let (seed, calls) = (settings::seed(), settings::calls());
+    settings::announce(&format!("comparing {calls} calls with numbers of the rival, seed {seed}"));
+    let mut rng = Rng::new(seed);
+    for _ in 0..calls {
+        compare(&number_case(&mut rng));
     }
 }
 

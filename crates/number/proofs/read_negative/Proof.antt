@@ -13,12 +13,13 @@ use mir.Syntax.{w64}
 use mir.Val.{ofZ, toZ}
 use borrow.Author.Needs.{needs}
 use Rattle.model.specs.Optional.{_>>=_}
-use Rattle.model.specs.Number.{readDigits, readPositive}
+use Rattle.model.specs.Number.{readDigits, readMagnitude}
+use Rattle.model.proofs.NumberWords.{magnitude-none, magnitude-digits, magnitude-long}
 use Rattle.number.specs.Answer.{negativeFrom}
 use Rattle.number.specs.declared.Signed.{Signed}
 use Rattle.number.specs.declared.Signed.the-variants.{Value, Bad}
 use Rattle.number.proofs.Integers.{back-is, abs-neg, neg-fits}
-use Rattle.number.proofs.Reading.{negative, negative-in, first, stays-bad, positive-none, positive-zero, positive-digits}
+use Rattle.number.proofs.Reading.{negative, negative-in, first, stays-bad}
 use Rattle.number.proofs.read_negative.Statement.{statement}
 use Rattle.number.proofs.read_negative.Tie as tie
 
@@ -27,7 +28,7 @@ record Reading (s : List ℕ) (acc i : ℕ) : Type 0 where
   is : acc ≡ ofZ w64 (negℤ (pos m))
   small : m ≤ 2 ^ 63
   within : i ≤ length s
-  whole : negativeFrom (readPositive s) ≡ negativeFrom (readDigits m (drop i s))
+  whole : negativeFrom (readMagnitude s) ≡ negativeFrom (readDigits m (drop i s))
 
 abbrev Inv-loop : tie.InvT-loop
 Inv-loop s acc₀ i₀ acc i = Reading s acc i
@@ -46,7 +47,7 @@ module _ {s : List ℕ} {acc i : ℕ} (r : Reading s acc i) where
   abbrev digit : Option ℕ
   digit = readDigits (r .m) (getD s i 0 ∷ [])
 
-  split : i < length s → negativeFrom (readPositive s) ≡ negativeFrom (digit >>= λ n. readDigits n (drop (suc i) s))
+  split : i < length s → negativeFrom (readMagnitude s) ≡ negativeFrom (digit >>= λ n. readDigits n (drop (suc i) s))
   split h = r .whole ∙ rw (drop-cons s i 0) (ap negativeFrom (first (r .m) (getD s i 0) (drop (suc i) s)))
 
   module _ (h : i < length s) (b : Signed) (p : b ≡ negativeFrom (readDigits (natAbs (toZ w64 acc)) (getD s i 0 ∷ []))) where
@@ -64,10 +65,10 @@ module _ {s : List ℕ} {acc i : ℕ} (r : Reading s acc i) where
           whole = rw add-one (split h ∙ ap (λ (o : Option ℕ). negativeFrom (o >>= λ n. readDigits n (drop (suc i) s))) (t .is));
         }
 
-    step-left : b ≡ Bad → Bad ≡ negativeFrom (readPositive s)
+    step-left : b ≡ Bad → Bad ≡ negativeFrom (readMagnitude s)
     step-left e = stays-bad digit (drop (suc i) s) (sym e ∙ pushed) ∙ sym (split h)
 
-  at-end : length s ≤ i → Value (toZ w64 acc) ≡ negativeFrom (readPositive s)
+  at-end : length s ≤ i → Value (toZ w64 acc) ≡ negativeFrom (readMagnitude s)
   at-end h = ap Value number-is ∙ sym (r .whole ∙ rw (drop-of-length-le s h) (negative-in (r .m) (r .small)))
 
 loop-holds : tie.Need-loop-holds Inv-loop μ-loop
@@ -77,7 +78,7 @@ loop-holds c =
       is = refl;
       small = omega arith;
       within = omega arith;
-      whole = ap negativeFrom (positive-digits (c .before .before .before .before .args .s .now) (c .before .before .if1 .left) (c .if2 .left));
+      whole = ap negativeFrom (magnitude-digits (c .before .before .before .args .s .now) (omega arith) (omega (arith, c .if2 .left)));
     }
 
 push-requires : tie.Need-push-requires Inv-loop μ-loop
@@ -106,8 +107,7 @@ read-negative-spec =
     tie.close
     (tie.spec
     Inv-loop μ-loop
-    (λ c. positive-none (c .before .before .args .s .now) (c .if1 .taken))
-    (λ c. search needs)
-    (λ c. positive-zero (c .before .before .before .before .args .s .now) (c .before .before .if1 .left) (c .if2 .taken))
+    (λ c. sym (ap negativeFrom (magnitude-none (c .before .before .args .s .now) (c .if1 .taken))))
+    (λ c. sym (ap negativeFrom (magnitude-long (c .before .before .before .args .s .now) (omega (arith, c .if2 .taken)))))
     loop-holds (λ c. search needs) push-requires (λ c. search needs) enum-told returns-3 (λ c. search needs) (λ c. search needs) loop-again
     (λ c. at-end (c .before .loop .inv) (c .loop-test .left)))

@@ -8,7 +8,7 @@ use Rattle.model.specs.Checked.{given}
 use Rattle.model.specs.Number.{readFlags}
 use Rattle.model.specs.Options.{flagsIn}
 use Rattle.model.specs.Parse.{wordAt}
-use Rattle.model.proofs.Numbers.{readFlags-below}
+use Rattle.model.proofs.NumberWords.{readFlags-below}
 use Rattle.number.specs.Answer.{naturalFrom}
 use Rattle.number.specs.declared.Natural.{Natural}
 use Rattle.resp.specs.Spans.{wordsOf}

@@ -3,6 +3,7 @@
 use super::subject::within;
 use super::{any_case, Faults};
 use crate::fields::Field;
+use crate::numerals::{bad_number, numeral};
 use crate::{words, Rng};
 
 /// The most words after name and key.
@@ -77,8 +78,14 @@ impl Maker {
         let kind = format!("{}{}", if field.signed { 'i' } else { 'u' }, field.width);
         let mut words = vec![any_case(rng, name), kind.into(), offset];
         match name {
-            "SET" => words.push(self.set_number(rng, field).to_string().into()),
-            "INCRBY" => words.push(self.increment(rng, field).to_string().into()),
+            "SET" => {
+                let number = self.set_number(rng, field);
+                words.push(numeral(rng, number));
+            }
+            "INCRBY" => {
+                let increment = self.increment(rng, field);
+                words.push(numeral(rng, increment));
+            }
             _ => {}
         }
         if faults.has(9) && rng.chance(60) {
@@ -111,8 +118,8 @@ impl Maker {
         let field = Field { signed, width, offset };
         self.field = (offset <= last_offset).then_some(field);
         match counted {
-            true => (field, format!("#{}", offset / width).into()),
-            false => (field, offset.to_string().into()),
+            true => (field, [b"#", &numeral(rng, offset / width)[..]].concat()),
+            false => (field, numeral(rng, offset)),
         }
     }
 
@@ -217,9 +224,9 @@ fn spoil_argument(rng: &mut Rng, field: Field, name: &str, words: &mut [Vec<u8>]
                 2 => least - 1 - rng.below(1000) as i128,
                 _ => greatest + 1 + rng.below(1000) as i128,
             };
-            words[3] = number.to_string().into();
+            words[3] = numeral(rng, number);
         }
-        _ => words[3] = words::bad_number(rng, 70),
+        _ => words[3] = bad_number(rng, 70),
     }
 }
 
@@ -227,9 +234,12 @@ fn bad_type(rng: &mut Rng, field: Field) -> Vec<u8> {
     let width = field.width;
     match rng.below(6) {
         0 => rng.pick(&["i65", "u64", "u65", "i0", "u0", "i66", "i128", "u100"]).into(),
-        1 => rng.pick(&["", "i", "u", "8", "x8", "#8", "ii8", "i8i", "u8\0", "GET", "-8"]).into(),
+        1 => rng
+            .pick(&["", "i", "u", "8", "x8", "#8", "ii8", "i8i", "u8\0", "GET", "-8", "+u8"])
+            .into(),
         2 => format!("{}{width}", rng.pick(&['I', 'U', 's', ' '])).into(),
-        3 => format!("{}{width}", rng.pick(&["i0", "u0", "i+", "u+", "i-", "u-", "i "])).into(),
+        3 => format!("{}{width}", rng.pick(&["i0", "u0", "i+", "u+", "i-", "u-", "i ", "u00"]))
+            .into(),
         4 => format!("i{width}{}", rng.pick(&[" ", "0", "x", ".0", "\r\n"])).into(),
         // what wraps to a width in 8, 32 or 64 bits
         _ => {
@@ -242,9 +252,12 @@ fn bad_type(rng: &mut Rng, field: Field) -> Vec<u8> {
 fn bad_offset(rng: &mut Rng) -> Vec<u8> {
     let mark = rng.pick(&["", "", "#"]);
     let number = match rng.below(4) {
-        0 => rng.pick(&["", "-1", "-0", "+5", "007", "00", "##1", "1#", "5 ", "1x"]).into(),
-        1 => rng.pick(&["4294967296", "4294967297", "-4294967295", "8589934592"]).into(),
-        _ => words::bad_number(rng, 30),
+        0 => rng.pick(&["", "##1", "1#", "5 ", "1x", "#+", "+#5", "-#0", "0#5"]).into(),
+        1 => {
+            let number = rng.pick(&[-1, -7, -(1 << 32) + 1, 1 << 32, (1 << 32) + 1, 1i64 << 33]);
+            numeral(rng, number)
+        }
+        _ => bad_number(rng, 30),
     };
     [mark.as_bytes(), &number].concat()
 }
@@ -284,9 +297,10 @@ pub fn spoil(rng: &mut Rng, words: &mut Vec<Vec<u8>>) {
 
 /// Words of BITFIELD and of options, in any order.
 fn soup(rng: &mut Rng) -> Vec<Vec<u8>> {
-    const WORDS: [&str; 24] = [
+    const WORDS: [&str; 27] = [
         "GET", "GET", "SET", "SET", "INCRBY", "INCRBY", "OVERFLOW", "OVERFLOW", "WRAP", "SAT",
-        "FAIL", "i8", "u8", "u1", "i64", "0", "0", "1", "#1", "-1", "NX", "EX", "VER", "FLAGS",
+        "FAIL", "i8", "u8", "u1", "i64", "0", "0", "1", "#1", "-1", "+1", "007", "-0", "NX", "EX",
+        "VER", "FLAGS",
     ];
     (0..rng.between(1, MOST_WORDS)).map(|_| rng.pick(&WORDS).into()).collect()
 }

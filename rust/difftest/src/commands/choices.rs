@@ -1,8 +1,10 @@
-//! Random options: each is given or not, with a number in its range.
+//! Random options: each is given or not, with a number in its range and in any
+//! form.
 
 use super::subject::{within, Subject};
 use super::Faults;
 use crate::layout::MAX_EXPIRY;
+use crate::numerals::numeral;
 use crate::{words, Rng};
 
 /// An option word, with its number word if it takes one.
@@ -33,13 +35,14 @@ pub fn flags(rng: &mut Rng, percent: usize) -> Option<Choice> {
     if !rng.chance(percent) {
         return None;
     }
-    let flags = match rng.below(4) {
-        0 => u32::MAX,
-        1 => rng.next_u64() as u32,
-        2 => (1 << 31) - rng.below(2) as u32,
+    let flags = match rng.below(5) {
+        0 => 0,
+        1 => u32::MAX,
+        2 => rng.next_u64() as u32,
+        3 => (1 << 31) - rng.below(2) as u32,
         _ => rng.below(10) as u32,
     };
-    Some(("FLAGS", Some(flags.to_string().into())))
+    Some(("FLAGS", Some(numeral(rng, flags))))
 }
 
 /// A time word with a number that makes an expiry in range, or with one that
@@ -53,14 +56,14 @@ pub fn time_word(rng: &mut Rng, faults: &Faults, time: u64, percent: usize) -> O
     let from = if word.ends_with("AT") { 0 } else { time.min(MAX_EXPIRY) };
     let most = (MAX_EXPIRY - from) / unit;
     let number = if faults.has(10) || most == 0 {
-        match rng.below(8) {
-            0 => 0,
-            1 => -1,
-            2 => -rng.pick(&[5, 1000, i64::MAX]),
-            3 => i64::MIN,
-            4 | 5 => most as i64 + 1,
+        match rng.below(9) {
+            0 | 1 => 0,
+            2 => -1,
+            3 => -rng.pick(&[5, 1000, i64::MAX]),
+            4 => i64::MIN,
+            5 | 6 => most as i64 + 1,
             // times 1000 it wraps to a small number in 64 bits
-            6 => 18_446_744_073_709_552 + rng.below(3) as i64,
+            7 => 18_446_744_073_709_552 + rng.below(3) as i64,
             _ => i64::MAX - rng.below(2) as i64,
         }
     } else {
@@ -76,7 +79,7 @@ pub fn time_word(rng: &mut Rng, faults: &Faults, time: u64, percent: usize) -> O
         };
         number.clamp(1, most) as i64
     };
-    Some((word, Some(number.to_string().into())))
+    Some((word, Some(numeral(rng, number))))
 }
 
 /// Bounds beside the sum, or beside the 0 that NONEGATIVE makes of it.
@@ -90,7 +93,8 @@ pub fn bounds(rng: &mut Rng, faults: &Faults, sum: i128) -> Vec<Choice> {
     };
     let (a, b) = (beside(rng), beside(rng));
     let (mut low, mut high) = (a.min(b), a.max(b));
-    let mut chosen = (rng.chance(25), rng.chance(25));
+    let percent = if faults.has(9) { 60 } else { 25 };
+    let mut chosen = (rng.chance(percent), rng.chance(percent));
     if faults.has(11) {
         if low == high {
             (low, high) = (0, 1);
@@ -100,10 +104,10 @@ pub fn bounds(rng: &mut Rng, faults: &Faults, sum: i128) -> Vec<Choice> {
     }
     let mut choices = Vec::new();
     if chosen.0 {
-        choices.push(("MIN", Some(low.to_string().into())));
+        choices.push(("MIN", Some(numeral(rng, low))));
     }
     if chosen.1 {
-        choices.push(("MAX", Some(high.to_string().into())));
+        choices.push(("MAX", Some(numeral(rng, high))));
     }
     choices
 }

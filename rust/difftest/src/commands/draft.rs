@@ -3,6 +3,7 @@
 use super::choices::{self, Choice};
 use super::subject::Subject;
 use super::{any_case, bitfield, Faults};
+use crate::numerals::numeral;
 use crate::{words, Rng};
 
 /// A command in the making.
@@ -74,7 +75,7 @@ impl Draft {
         time: u64,
     ) -> Vec<Choice> {
         let increment = subject.increment(rng);
-        self.number(increment.to_string().into());
+        self.number(numeral(rng, increment));
         let choices = [
             choices::time_word(rng, faults, time, 25),
             choices::condition(rng),

@@ -57,7 +57,10 @@ pub fn pick_name(rng: &mut Rng, faults: &Faults) -> &'static str {
     } else if faults.has(10) {
         &["EXSET", "EXINCRBY", "EXCAS", "EXGAE"]
     } else if faults.has(9) {
-        &["EXSET", "EXSETVER", "EXINCRBY", "EXCAS", "EXCAD", "EXAPPEND", "EXGAE", "BITFIELD"]
+        &[
+            "EXSET", "EXSETVER", "EXINCRBY", "EXCAS", "EXCAD", "EXAPPEND", "EXPREPEND", "EXGAE",
+            "BITFIELD",
+        ]
     } else if faults.has(8) {
         &["EXSET", "EXGET", "EXINCRBY", "EXCAS", "EXAPPEND", "EXPREPEND", "EXGAE", "BITFIELD"]
     } else {

@@ -2,6 +2,8 @@
 
 use super::draft::Draft;
 use super::{any_case, bitfield, Faults};
+use crate::number_words::NUMBERED;
+use crate::numerals::{bad_number, numeral};
 use crate::{words, Rng};
 
 impl Draft {
@@ -25,12 +27,16 @@ impl Draft {
             return;
         }
         let at = rng.pick(&self.numbers);
-        self.words[at] = match rng.below(4) {
+        let number: i128 = match rng.below(4) {
             // a signed number, but no version or flags
-            0 => words::number(rng).to_string().into(),
-            1 => rng.pick(&["-1", "4294967296", "4294967301", "9223372036854775808"]).into(),
-            _ => words::bad_number(rng, 70),
+            0 => words::number(rng).into(),
+            1 => rng.pick(&[-1, 1 << 32, (1 << 32) + 5, 1 << 63]),
+            _ => {
+                self.words[at] = bad_number(rng, 70);
+                return;
+            }
         };
+        self.words[at] = numeral(rng, number);
     }
 
     fn spoil_length(&mut self, rng: &mut Rng) {
@@ -59,7 +65,7 @@ impl Draft {
             }
             // one without its number
             4 => {
-                let word = rng.pick(NUMBERED);
+                let word = rng.pick(&NUMBERED);
                 self.words.push(any_case(rng, word));
             }
             // one twice, or a number twice
@@ -128,9 +134,6 @@ impl Draft {
     }
 }
 
-/// The options that take a number.
-const NUMBERED: &[&str] = &["EX", "PX", "EXAT", "PXAT", "VER", "ABS", "FLAGS", "MIN", "MAX"];
-
 const ALL_OPTIONS: &[&str] = &[
     "EX", "PX", "EXAT", "PXAT", "KEEPTTL", "NX", "XX", "VER", "ABS", "FLAGS", "MIN", "MAX",
     "NONEGATIVE", "WITHVERSION", "WITHFLAGS",
@@ -159,7 +162,7 @@ fn option_words(rng: &mut Rng, options: &[&str]) -> Vec<Vec<u8>> {
     let option = rng.pick(options);
     let mut words = vec![any_case(rng, option)];
     if NUMBERED.contains(&option) {
-        words.push(b"5".to_vec());
+        words.push(numeral(rng, 5));
     }
     words
 }

@@ -1,5 +1,6 @@
 //! The key that a random command is about, with what stands there.
 
+use crate::numerals::{numeral, value};
 use crate::{layout, tables, words, Rng};
 
 /// What a command is about: a key with the version and value that stand
@@ -39,13 +40,12 @@ impl Subject {
             _ => tables::version(rng),
         };
         // Beside a limit it may have left the range.
-        version.min(layout::MAX_VERSION).to_string().into()
+        numeral(rng, version.min(layout::MAX_VERSION))
     }
 
     /// The number that stands there; 0 if it is none.
     pub fn number(&self) -> i128 {
-        let text = std::str::from_utf8(&self.value).unwrap_or("");
-        text.parse::<i64>().unwrap_or(0).into()
+        value(&self.value).unwrap_or(0).into()
     }
 
     /// Often one whose sum is at a limit or just past it.

@@ -1,7 +1,8 @@
 //! Random histories of transactions on one record.
 //!
 //! A transaction reads the record with EXGET and may later send EXCAS with
-//! KEEPTTL, the version that it got and a value made from the one it read.
+//! KEEPTTL, the version that it got, in any form, and a value made from the one it
+//! read.
 //! Among these calls come commands on other keys and refused calls. The
 //! answers decide which transactions count: a serial execution of those
 //! answered OK, in the order of their EXCAS, must leave the same record.
@@ -25,6 +26,8 @@ pub struct Summary {
     pub ok: usize,
     /// Transactions answered stale.
     pub stale: usize,
+    /// Those answered whose EXCAS had its version with a plus or extra zeros.
+    pub long_versions: usize,
     /// Transactions whose EXCAS was refused.
     pub refused_writes: usize,
     /// Transactions that sent no EXCAS.
@@ -50,6 +53,7 @@ impl Summary {
     pub fn add(&mut self, other: &Summary) {
         self.ok += other.ok;
         self.stale += other.stale;
+        self.long_versions += other.long_versions;
         self.refused_writes += other.refused_writes;
         self.reads_only += other.reads_only;
         self.others += other.others;

@@ -4,6 +4,7 @@ use super::update::Update;
 use super::Summary;
 use crate::commands::{self, Faults};
 use crate::layout::{self, Fields, Record, MAX_TIME, MAX_VERSION, RECORD};
+use crate::numerals::{form, numeral};
 use crate::resp::{self, Reply};
 use crate::shared::{other, part_beside, part_of};
 use crate::{tables, words, Answer, Rng};
@@ -165,7 +166,7 @@ where
             commands::any_case(rng, "EXCAS"),
             self.key.clone(),
             read.update.apply(&read.value),
-            read.version.to_string().into(),
+            numeral(rng, read.version),
             commands::any_case(rng, "KEEPTTL"),
         ];
         if rng.chance(10) {
@@ -176,6 +177,7 @@ where
         if number != 0 {
             return Err(format!("EXCAS of a live record is refused by {number}"));
         }
+        self.summary.long_versions += usize::from(form(&words[3]) != "short");
         let stale_is_due = self.summary.ok != read.ok_before;
         match (is_stale(&reply)?, stale_is_due) {
             (true, true) => self.summary.stale += 1,
@@ -281,15 +283,18 @@ where
 
     /// Words of a command on the record; some are refused by themselves.
     fn refused_words(&self, rng: &mut Rng) -> Vec<Vec<u8>> {
-        let wrong = (layout::version(&self.serial) ^ 1).to_string();
-        let right = layout::version(&self.serial).to_string();
+        let version = layout::version(&self.serial);
+        // A digit too many makes the right version no number.
+        let long = format!("{version:0>21}");
+        let mut number = |number: u64| String::from_utf8(numeral(rng, number)).unwrap();
+        let (right, wrong, zero) = (number(version), number(version ^ 1), number(0));
         let line = match rng.below(14) {
             0 => vec!["EXSET", "", "v", "VER", &wrong],
             1 => vec!["EXAPPEND", "", "v", "VER", &wrong],
             2 => vec!["EXCAS", "", "v", &right, "NOPE"],
-            3 => vec!["EXCAS", "", "v", "-0", "KEEPTTL"],
+            3 => vec!["EXCAS", "", "v", &long, "KEEPTTL"],
             4 => vec!["EXINCRBY", "", "1", "MIN", "2", "MAX", "1"],
-            5 => vec!["EXGAE", "", "EX", "0"],
+            5 => vec!["EXGAE", "", "EX", &zero],
             6 => vec!["DEL", ""],
             7 => vec!["EXCAD", "", &right],
             8 => vec!["EXSETVER", "", "5"],

@@ -24,8 +24,8 @@ fn transactions_of_a_party_run_as_if_one_at_a_time() {
     }
     println!("{total:?}");
     let counts = [
-        total.ok, total.stale, total.refused_writes, total.reads_only, total.others,
-        total.bitfields, total.refused, total.foreign, total.foreign_writes,
+        total.ok, total.stale, total.long_versions, total.refused_writes, total.reads_only,
+        total.others, total.bitfields, total.refused, total.foreign, total.foreign_writes,
         total.foreign_same_key, total.foreign_refused,
     ];
     assert!(counts.iter().all(|count| *count as u64 >= histories / 4), "{total:?}");

@@ -90,11 +90,14 @@ fn min_5_max_5_is_valid() {
     store.refuse("EXINCRBY foo 1 MIN 6 MAX 5", 11);
 }
 
+/// Document 01 has 9 for both; document 02 lets them pass.
 #[test]
-fn minus_zero_and_leading_zeros_are_9() {
+fn minus_zero_and_leading_zeros_are_numbers() {
     let mut store = Store::new(1);
-    store.expect("EXINCRBY foo -0", 9, "-ERR value is not an integer or out of range\r\n");
-    store.expect("EXINCRBY foo 007", 9, "-ERR value is not an integer or out of range\r\n");
+    store.answer("EXINCRBY foo -0", ":0\r\n");
+    assert_eq!(store.record(0), foo(1, b"0"));
+    store.answer("EXINCRBY foo 007", ":7\r\n");
+    assert_eq!(store.record(0), foo(2, b"7"));
 }
 
 #[test]

@@ -44,6 +44,9 @@ fn excas_shows_the_command_where_it_succeeds() {
     let expected = Some(Shown { in_command: true, start: 28, len: 4 });
     assert_eq!(shown(&store, "EXCAS foo next 7"), expected);
     assert_eq!(shown(&store, "EXCAS foo next 7 KEEPTTL"), expected);
+    for version in ["+7", "007", "+00000000000000000007"] {
+        assert_eq!(shown(&store, &format!("EXCAS foo next {version}")), expected);
+    }
     assert_eq!(part(&store, &line("EXCAS foo next 7")), Some((true, &b"next"[..])));
     // Live is judged before the command.
     assert_eq!(shown(&store, "EXCAS foo next 7 PXAT 1"), expected);
@@ -74,7 +77,8 @@ fn other_commands_absent_keys_and_refusals_show_nothing() {
         "EXSET foo x", "EXGAE foo EX 5", "EXSETVER foo 7", "EXCAD foo 7", "EXINCRBY first 1",
         "EXAPPEND foo x", "DEL foo", "BITFIELD foo GET u8 0", "BITFIELD foo SET u8 0 1", "GET foo",
         "EXGET other", "EXCAS other x 1", "EXGET", "EXGET foo NOPE", "EXCAS foo x",
-        "EXCAS foo x y", "EXCAS foo x 7 EX 0", "EXCAS foo x 7 EX",
+        "EXCAS foo x y", "EXCAS foo x 7 EX 0", "EXCAS foo x 7 EX", "EXCAS foo x 7 EX -0",
+        "EXCAS foo x 000000000000000000007", "EXCAS foo x +-7",
     ];
     for text in lines {
         assert_eq!(shown(&store, text), None, "{text}");

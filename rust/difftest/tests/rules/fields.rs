@@ -291,6 +291,7 @@ fn types_have_one_form() {
     for kind in [
         "U8", "I8", "u08", "i08", "u0", "i0", "i65", "u65", "i", "u", "8", "u+8", "u-8", "i-8",
         "x8", "u8x", "u8.0", "uu8", "#8", "i100", "i18446744073709551617", "u4294967304", "u264",
+        "+u8", "u008", "i+8",
     ] {
         store.refuse_fields(&format!("GET {kind} 0"), 9);
         store.refuse_fields(&format!("SET {kind} 0 0"), 9);
@@ -305,12 +306,12 @@ fn types_have_one_form() {
 #[test]
 fn offsets_have_two_forms() {
     let mut store = Store::new(1);
-    for offset in ["0", "#0", "7", "#7", "4294967295", "#4294967295"] {
+    for offset in ["0", "#0", "7", "#7", "4294967295", "#4294967295", "-0", "#-0", "+5", "#007"] {
         store.fields(&format!("GET u8 {offset}"), "0");
     }
     for offset in [
-        "#", "##1", "-1", "#-1", "+5", "#+5", "+#5", "007", "#007", "00", "#00", "-0", "#-0", "1#",
-        "4294967296", "#4294967296", "9223372036854775808", "18446744073709551616", "1x", "x",
+        "#", "##1", "-1", "#-1", "+#5", "-#0", "1#", "4294967296", "#4294967296",
+        "00000000004294967296", "9223372036854775808", "18446744073709551616", "1x", "x",
     ] {
         store.refuse_fields(&format!("GET u8 {offset}"), 9);
         store.refuse_fields(&format!("SET u8 {offset} 0"), 9);
@@ -351,7 +352,7 @@ fn numbers_that_do_not_fit_are_refused() {
         "u8 0 256", "u8 0 -1", "i8 0 128", "i8 0 -129", "u1 0 2", "u1 0 -1", "i1 0 1", "i1 0 -2",
         "u63 0 -1", "u63 0 9223372036854775808", "i64 0 9223372036854775808", "u32 0 4294967296",
         "i64 0 -9223372036854775809", "i63 0 4611686018427387904", "u62 0 4611686018427387904",
-        "u8 0 -9223372036854775808",
+        "u8 0 -9223372036854775808", "u8 0 +256", "u8 0 0256", "u8 0 -007",
     ] {
         store.refuse_fields(&format!("SET {text}"), 9);
         // SET does not depend on OVERFLOW.
@@ -359,7 +360,7 @@ fn numbers_that_do_not_fit_are_refused() {
             store.refuse_fields(&format!("OVERFLOW {overflow} SET {text}"), 9);
         }
     }
-    for number in ["x", "+1", "-0", "007", "1.0", "u8", "-", "18446744073709551616"] {
+    for number in ["x", "+", "+-1", "1.0", "u8", "-", "18446744073709551616"] {
         store.refuse_fields(&format!("SET u8 0 {number}"), 9);
         store.refuse_fields(&format!("INCRBY u8 0 {number}"), 9);
     }

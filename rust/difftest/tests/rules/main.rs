@@ -6,6 +6,7 @@ mod bench_sheet;
 mod current_value;
 mod decimals;
 mod fields;
+mod number_words;
 mod overflows;
 mod rulings;
 mod sessions;

@@ -198,8 +198,8 @@ fn ruling_6_sizes_and_odd_words() {
 fn ruling_7_stored_values_that_are_no_number() {
     let mut store = Store::new(1);
     for value in [
-        "-0", "007", "+5", "9223372036854775808", "-9223372036854775809", "18446744073709551616",
-        "1x", "x", "-",
+        "9223372036854775808", "-9223372036854775809", "18446744073709551616",
+        "000000000000000000007", "1x", "x", "-", "+", "+-5",
     ] {
         store.answer(&format!("EXSET k {value}"), "+OK\r\n");
         store.refuse("EXINCRBY k 1", 13);

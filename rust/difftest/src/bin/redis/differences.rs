@@ -45,9 +45,10 @@ const NIL: &str = "*1\r\n$-1\r\n";
 const TYPE: &str = "Invalid bitfield type. Use something like i16 u8. Note that u64 is not \
                     supported but i64 is.";
 const OFFSET: &str = "bit offset is not an integer or out of range";
+const NUMBER: &str = "value is not an integer or out of range";
 
 fn rows() -> Vec<Row> {
-    [numbers_for_set(), growth(), offsets(), words(), limits(), texts()]
+    [numbers_for_set(), number_words(), growth(), offsets(), words(), limits(), texts()]
         .into_iter()
         .flatten()
         .collect()
@@ -63,6 +64,24 @@ fn numbers_for_set() -> Vec<Row> {
         only_redis("BITFIELD faults OVERFLOW SAT SET u8 0 -1", 9, ZERO, Some(&[255])),
         only_redis("BITFIELD faults OVERFLOW SAT SET i8 0 -200", 9, ZERO, Some(&[128])),
         only_redis("BITFIELD faults OVERFLOW FAIL SET u8 0 257", 9, NIL, Some(&[0])),
+    ]
+}
+
+/// Redis takes numbers in their short form alone.
+fn number_words() -> Vec<Row> {
+    let only_ours = |line, refusal: &str, value: Option<&[u8]>, reply: &str| Row {
+        line,
+        before: None,
+        redis: outcome(&format!("-ERR {refusal}\r\n"), None),
+        ours: outcome(reply, value),
+    };
+    vec![
+        only_ours("BITFIELD faults GET u8 +5", OFFSET, None, ZERO),
+        only_ours("BITFIELD faults GET u8 #007", OFFSET, None, ZERO),
+        only_ours("BITFIELD faults GET u8 -0", OFFSET, None, ZERO),
+        only_ours("BITFIELD faults SET u8 0 +5", NUMBER, Some(&[5]), ZERO),
+        only_ours("BITFIELD faults SET u8 0 007", NUMBER, Some(&[7]), ZERO),
+        only_ours("BITFIELD faults INCRBY u8 0 -0", NUMBER, Some(&[0]), ZERO),
     ]
 }
 

@@ -8,6 +8,8 @@ mod server;
 use difftest::bitfield::fields;
 use difftest::compare::Outcome;
 use difftest::fields::Field;
+use difftest::number_words::{number_words, NumberWord};
+use difftest::numerals::form;
 use difftest::resp::{encode, Reply};
 use difftest::{bitfield_words, layout, settings, Answer, Case, Rng};
 use server::Server;
@@ -57,6 +59,8 @@ struct Counts {
     refused: u64,
     /// Answered here, while Redis refuses an offset of 2^32 and more.
     far: u64,
+    /// Answered here, while Redis refuses a number with a plus or extra zeros.
+    long: u64,
     /// Answered by both, but the value of Redis has more zeros.
     grown: u64,
     /// Not sent to Redis, which would do something else.
@@ -110,9 +114,9 @@ fn compare(
     if ours.answer.number != 0 {
         assert!(matches!(theirs.reply, Reply::Error(_)), "{theirs:?}: {}", case.again());
         counts.refused += 1;
-    } else if fields(words).iter().any(|(_, field)| field.offset >= 1 << 32) {
+    } else if let Some(count) = only_ours(words, counts) {
         assert!(matches!(theirs.reply, Reply::Error(_)), "{theirs:?}: {}", case.again());
-        counts.far += 1;
+        *count += 1;
         restore(server, stored(&ours.table));
         return;
     } else {
@@ -124,6 +128,18 @@ fn compare(
     if wanted.as_deref() != stored(&ours.table) {
         counts.grown += 1;
         restore(server, stored(&ours.table));
+    }
+}
+
+/// The count of what is answered here and refused by Redis, if a command is so.
+fn only_ours<'a>(words: &[Vec<u8>], counts: &'a mut Counts) -> Option<&'a mut u64> {
+    let is_long = |word: &NumberWord| form(word.text) != "short";
+    if number_words(words).iter().any(is_long) {
+        Some(&mut counts.long)
+    } else if fields(words).iter().any(|(_, field)| field.offset >= 1 << 32) {
+        Some(&mut counts.far)
+    } else {
+        None
     }
 }
 
