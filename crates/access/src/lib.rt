@@ -1,4 +1,6 @@
 // The commands that write no value: what each gives back.
+#![tactic(auto)]
+
 ghost use Rattle.std.specs.Prelude.{[]};
 ghost use Rattle.command.specs.declared.Action.TheVariants as ActionOf;
 ghost use Rattle.live.specs.Under.{Sound, shape_of};

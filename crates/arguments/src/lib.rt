@@ -1,4 +1,6 @@
 // The fixed words of a command: how many there are, the sizes of key and value, and the number among them.
+#![tactic(auto)]
+
 ghost use Rattle.std.specs.Prelude.{◌≡◌};
 ghost use Rattle.std.proofs.Math.Option.{some};
 ghost use Rattle.model.specs.Checked.{given};
@@ -13,14 +15,14 @@ use number::{Natural, Signed};
 use record::{Form, KEY_LIMIT};
 
 // The number that the last fixed word says, signed or a version, with 0 for the other.
-#[derive(Drop)]
+#[derive(Clone, Copy)]
 pub struct Fixed {
     pub by: i64,
     pub version: u64,
 }
 
 // The number that the last fixed word says with number 0, or the number of the refusal.
-#[derive(Drop)]
+#[derive(Clone, Copy)]
 pub struct ReadFixed {
     pub number: u32,
     pub fixed: Fixed,

@@ -8,14 +8,14 @@ ghost use Rattle.assembler.specs.Places.{header_of, place_of, moved_to, beyond};
 const COMMAND_LIMIT: u16 = 512;
 
 // The line of an array, or that of a bulk string with so many words after it.
-#[derive(Drop)]
+#[derive(Clone, Copy)]
 pub enum Header {
     Array,
     Bulk(u16),
 }
 
 // What comes next.
-#[derive(Drop)]
+#[derive(Clone, Copy)]
 pub enum Place {
     // the array's mark
     Start,
@@ -34,7 +34,7 @@ pub enum Place {
 }
 
 // The place after a byte, the limit of 512 bytes aside; or that no command of any length has that byte there.
-#[derive(Drop)]
+#[derive(Clone, Copy)]
 pub enum Moved {
     To(Place),
     Nowhere,

@@ -1,4 +1,6 @@
 // Commands that come in pieces: what a piece makes of the bytes held so far.
+#![tactic(auto)]
+
 mod frame;
 mod machine;
 
@@ -15,7 +17,7 @@ pub const SIZE: usize = 512;
 // What a piece comes to. `More`: no whole command yet, and all its bytes are taken and held. `Whole`: so many of its bytes are taken, and they
 // make the command whole. `Refused`: so many are taken, and no whole command can follow; 0: what is held cannot have
 // come from a call.
-#[derive(Drop)]
+#[derive(Clone, Copy)]
 pub enum Assembled {
     More,
     Whole(usize),

@@ -7,21 +7,21 @@ ghost use Rattle.assembler.specs.States.{state_of, state_after, scan_of, Fits};
 use crate::frame::{Moved, Place, is_beyond, next};
 
 // What comes next, after so many bytes.
-#[derive(Drop)]
+#[derive(Clone, Copy)]
 pub struct State {
     pub place: Place,
     pub used: u16,
 }
 
 // The state after a byte; or that no whole command can follow.
-#[derive(Drop)]
+#[derive(Clone, Copy)]
 pub enum Stepped {
     At(State),
     Dead,
 }
 
 // What bytes come to: no whole command yet; one after so many of them; or none can follow after so many.
-#[derive(Drop)]
+#[derive(Clone, Copy)]
 pub enum Scanned {
     More(State),
     Whole(usize),

@@ -1,4 +1,6 @@
 // BITFIELD's subcommands, run left to right on a copy of the stored value. Nothing here writes to a table.
+#![tactic(auto)]
+
 ghost use Rattle.std.specs.Prelude.{◌≡◌, ◌+◌, ◌*◌, ◌≤◌, length, take, get_or, replicate};
 ghost use Rattle.std.proofs.Math.Option.{some};
 ghost use Rattle.model.specs.Field.{set_field};
@@ -14,14 +16,14 @@ use field::Increased;
 use live::{Lookup, Target};
 
 // What a subcommand answers: a number, or nil for an INCRBY that fails.
-#[derive(Drop)]
+#[derive(Clone, Copy)]
 enum Answered {
     Number(i64),
     Nil,
 }
 
 // What a subcommand leaves: how long the value is, whether it wrote, and what it answers.
-#[derive(Drop)]
+#[derive(Clone, Copy)]
 struct Done {
     len: usize,
     wrote: bool,
@@ -29,7 +31,7 @@ struct Done {
 }
 
 // What the subcommands leave: how long the value is, whether one wrote, and how long the text of their answers is.
-#[derive(Drop)]
+#[derive(Clone, Copy)]
 pub struct Ran {
     pub len: usize,
     pub wrote: bool,

@@ -1,4 +1,6 @@
 // Building a command in RESP2, word by word in a borrowed buffer.
+#![tactic(auto)]
+
 ghost use Rattle.std.specs.Prelude.{◌≡◌, ◌&&◌, ◌+◌, ◌≤◌, length, drop, leb};
 ghost use Rattle.std.proofs.Math.Option.{get_or};
 ghost use Rattle.model.specs.Resp.{command_limit, bulk_bytes};

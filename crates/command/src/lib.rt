@@ -1,5 +1,7 @@
 // A command by value: what it does, its name, its options and its subcommands, and the rule of each name. The key and the value stay in the borrowed bytes, as
 // words 1 and 2.
+#![tactic(auto)]
+
 mod subcommand;
 
 ghost use Rattle.std.specs.Prelude.{◌≡◌};
@@ -10,7 +12,7 @@ ghost use Rattle.command.specs.Rules.{model_rule};
 pub use subcommand::{Field, IntType, Mode, Operation, Sub, Subs};
 
 // NX and XX.
-#[derive(Drop)]
+#[derive(Clone, Copy)]
 pub enum Presence {
     Always,
     IfAbsent,
@@ -18,7 +20,7 @@ pub enum Presence {
 }
 
 // What becomes of the version: one higher, one higher from this one only (VER), or this one (ABS).
-#[derive(Drop)]
+#[derive(Clone, Copy)]
 pub enum Change {
     Raise,
     RaiseFrom(u64),
@@ -26,7 +28,7 @@ pub enum Change {
 }
 
 // What becomes of the expiry.
-#[derive(Drop)]
+#[derive(Clone, Copy)]
 pub enum Expire {
     Clear,
     Keep,
@@ -34,14 +36,14 @@ pub enum Expire {
 }
 
 // MIN or MAX.
-#[derive(Drop)]
+#[derive(Clone, Copy)]
 pub enum Bound {
     Open,
     At(i64),
 }
 
 // The end of the stored value where EXAPPEND and EXPREPEND put their text.
-#[derive(Drop)]
+#[derive(Clone, Copy)]
 pub enum End {
     Back,
     Front,
@@ -49,7 +51,7 @@ pub enum End {
 
 // On what terms a value is written: NX or XX, VER or ABS, and what becomes of the expiry. They come first in every command that has them, so that
 // they stand at one place whichever it is.
-#[derive(Drop)]
+#[derive(Clone, Copy)]
 pub struct Terms {
     pub presence: Presence,
     pub change: Change,
@@ -57,7 +59,7 @@ pub struct Terms {
 }
 
 // EXSET: how it stores, and whether it answers with the version.
-#[derive(Drop)]
+#[derive(Clone, Copy)]
 pub struct Set {
     pub terms: Terms,
     pub with_version: bool,
@@ -65,7 +67,7 @@ pub struct Set {
 }
 
 // EXINCRBY: what it adds, on what terms and within which bounds, and whether it answers with the version.
-#[derive(Drop)]
+#[derive(Clone, Copy)]
 pub struct Increment {
     pub terms: Terms,
     pub with_version: bool,
@@ -76,21 +78,21 @@ pub struct Increment {
 }
 
 // EXAPPEND and EXPREPEND: where the text goes, and on what terms.
-#[derive(Drop)]
+#[derive(Clone, Copy)]
 pub struct Join {
     pub terms: Terms,
     pub end: End,
 }
 
 // EXCAS: the version that the record must have, and what becomes of the expiry.
-#[derive(Drop)]
+#[derive(Clone, Copy)]
 pub struct Swap {
     pub version: u64,
     pub expire: Expire,
 }
 
 // What is to be done at the key, word 1 of the command, with the value, word 2, where there is one.
-#[derive(Drop)]
+#[derive(Clone, Copy)]
 pub enum Action {
     Exset(Set),
     Exget { with_flags: bool },
@@ -106,14 +108,14 @@ pub enum Action {
 
 // What a command asks for: an action, or BITFIELD, whose subcommands are still to be read. They stand in no action, since
 // every action would then be as large as they are.
-#[derive(Drop)]
+#[derive(Clone, Copy)]
 pub enum Task {
     Action(Action),
     Bitfield,
 }
 
 // What a command asks for, or document 01's number of the refusal, 5 to 11.
-#[derive(Drop)]
+#[derive(Clone, Copy)]
 pub enum Parsed {
     Task(Task),
     Refused(u32),
@@ -122,7 +124,7 @@ pub enum Parsed {
 // ---- names and option words
 
 // The names of the commands with options.
-#[derive(Drop)]
+#[derive(Clone, Copy)]
 pub enum Name {
     Exset,
     Exget,
@@ -137,7 +139,7 @@ pub enum Name {
 }
 
 // The command that a word names, if any: one with options, or BITFIELD, which has subcommands.
-#[derive(Drop)]
+#[derive(Clone, Copy)]
 pub enum Named {
     Known(Name),
     Bitfield,
@@ -145,7 +147,7 @@ pub enum Named {
 }
 
 // The names of subcommands.
-#[derive(Drop)]
+#[derive(Clone, Copy)]
 pub enum SubName {
     Get,
     Set,
@@ -154,21 +156,21 @@ pub enum SubName {
 }
 
 // The subcommand that a word names, if any.
-#[derive(Drop)]
+#[derive(Clone, Copy)]
 pub enum SubNamed {
     Known(SubName),
     Unknown,
 }
 
 // The mode that a word names, if any.
-#[derive(Drop)]
+#[derive(Clone, Copy)]
 pub enum ModeNamed {
     Known(Mode),
     Unknown,
 }
 
 // Options that hold no choice.
-#[derive(Drop)]
+#[derive(Clone, Copy)]
 pub enum Plain {
     KeepTtl,
     Flags,
@@ -180,7 +182,7 @@ pub enum Plain {
 }
 
 // An option. A time word has its unit in milliseconds; EX and PX count from the call's time.
-#[derive(Drop)]
+#[derive(Clone, Copy)]
 pub enum Opt {
     Time { unit: u16, from_now: bool },
     Presence(Presence),
@@ -189,7 +191,7 @@ pub enum Opt {
 }
 
 // The option that a word spells, if any.
-#[derive(Drop)]
+#[derive(Clone, Copy)]
 pub enum Spelled {
     Known(Opt),
     Unknown,
@@ -198,7 +200,7 @@ pub enum Spelled {
 // ---- the rule of a command
 
 // What number the last fixed word is.
-#[derive(Drop)]
+#[derive(Clone, Copy)]
 pub enum Number {
     Absent,
     Signed,
@@ -207,7 +209,7 @@ pub enum Number {
 
 // The fixed words, the name counted; whether more are refused; whether the third is a value; what number the last fixed word is; the kinds of
 // options, one bit for each; whether a time word is needed; whether the expiry is kept where no option says.
-#[derive(Drop)]
+#[derive(Clone, Copy)]
 pub struct Rule {
     pub fixed: usize,
     pub exact: bool,

@@ -1,21 +1,21 @@
 // The subcommands of BITFIELD by value.
 
 // The type of a field: signed or not, and its width in bits.
-#[derive(Drop)]
+#[derive(Clone, Copy)]
 pub struct IntType {
     pub signed: bool,
     pub width: u8,
 }
 
 // A field: its type and its first bit.
-#[derive(Drop)]
+#[derive(Clone, Copy)]
 pub struct Field {
     pub int: IntType,
     pub offset: u64,
 }
 
 // What INCRBY makes of a sum that does not fit: OVERFLOW WRAP, SAT or FAIL.
-#[derive(Drop)]
+#[derive(Clone, Copy)]
 pub enum Mode {
     Wrap,
     Sat,
@@ -23,7 +23,7 @@ pub enum Mode {
 }
 
 // What a subcommand does with its field.
-#[derive(Drop)]
+#[derive(Clone, Copy)]
 pub enum Operation {
     Get,
     Set,
@@ -31,7 +31,7 @@ pub enum Operation {
 }
 
 // A subcommand with its number, which is 0 for GET.
-#[derive(Drop)]
+#[derive(Clone, Copy)]
 pub struct Sub {
     pub operation: Operation,
     pub field: Field,
@@ -40,7 +40,7 @@ pub struct Sub {
 
 // The subcommands of a command, at most four, since one has three words or more. They are not an array, since an enum cannot
 // hold one.
-#[derive(Drop)]
+#[derive(Clone, Copy)]
 pub struct Subs {
     pub count: usize,
     pub first: Sub,

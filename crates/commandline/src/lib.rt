@@ -1,4 +1,6 @@
 // The program's arguments: options, then the words of a command.
+#![tactic(auto)]
+
 mod line;
 mod numbers;
 mod switch;

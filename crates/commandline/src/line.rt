@@ -6,7 +6,7 @@ use crate::switch::{Switch, switch_of, takes_value};
 
 // The place of each option's value, or of the option where it takes none; 0 where it is not given. Of two, the last counts. The words
 // of the command begin at `words`, which is the count of the arguments where there are none.
-#[derive(Drop)]
+#[derive(Clone, Copy)]
 pub struct Line {
     pub table: usize,
     pub time: usize,

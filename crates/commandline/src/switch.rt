@@ -4,7 +4,7 @@ ghost use Rattle.model.specs.Command.{look};
 ghost use Rattle.commandline.specs.Switches.{switches, switch_from, switch_of, dashed, takes_value};
 
 // What an argument is before the first word of a command.
-#[derive(Drop)]
+#[derive(Clone, Copy)]
 pub enum Switch {
     Table,
     Time,

@@ -1,4 +1,6 @@
 // The sum that EXINCRBY stores, or document 01's number of its refusal.
+#![tactic(auto)]
+
 ghost use Rattle.std.specs.Prelude.{◌≡◌, ◌+ℤ◌};
 ghost use Rattle.std.proofs.Math.Option.{none, some};
 ghost use Rattle.model.specs.Execute.{not_below, not_above, floored, sum, total};
@@ -10,7 +12,7 @@ use command::{Bound, Increment};
 use number::{Signed, Sum};
 
 // A sum, or the number of the refusal, 13 or 14.
-#[derive(Drop)]
+#[derive(Clone, Copy)]
 pub enum Counted {
     Value(i64),
     Refused(u32),

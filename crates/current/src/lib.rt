@@ -1,4 +1,6 @@
 // The current value of a key after an EXGET or EXCAS, found without doing the command: a part of the table or of the command.
+#![tactic(auto)]
+
 ghost use Rattle.std.specs.Prelude.{◌≤◌, ◌≡◌};
 ghost use Rattle.model.specs.Table.{form128};
 ghost use Rattle.model.specs.CurrentValue.{current_value};
@@ -16,7 +18,7 @@ use record::Form;
 use resp::Span;
 
 // No value, or where one begins and how long it is.
-#[derive(Drop)]
+#[derive(Clone, Copy)]
 pub enum Shown {
     Nothing,
     InTable { start: usize, len: usize },

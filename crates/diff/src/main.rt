@@ -1,5 +1,7 @@
 // Prints what differs between the tables of two files in the folder that it is run in, before.table and after.table. The files with it hold
 // document 02's example.
+#![tactic(auto)]
+
 use inspection::print_difference;
 use tablefile::{SPACE, fetch, tell};
 

@@ -6,7 +6,7 @@ ghost use Rattle.record.specs.Record.{InUse};
 ghost use Rattle.difference.specs.Lines.{fields_of, is_none};
 
 // Whether each field differs.
-#[derive(Drop)]
+#[derive(Clone, Copy)]
 pub struct Fields {
     pub value: bool,
     pub version: bool,

@@ -1,4 +1,6 @@
 // What differs between two tables, as lines of text.
+#![tactic(auto)]
+
 mod fields;
 mod line;
 mod walk;

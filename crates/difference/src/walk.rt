@@ -12,7 +12,7 @@ use order::{Comparison, compare, make_index};
 use record::Form;
 
 // How far the walk is: the places in the two indexes, and the place in the buffer.
-#[derive(Drop)]
+#[derive(Clone, Copy)]
 pub struct Walk {
     pub first: usize,
     pub second: usize,

@@ -1,4 +1,6 @@
 // What comes before a command is carried out: tests 1 to 4, its parse, and the search for its key.
+#![tactic(auto)]
+
 ghost use Rattle.std.specs.Prelude.{◌≡◌, length};
 ghost use Rattle.model.specs.Table.{form128};
 ghost use Rattle.integrity.specs.Check.{faultless, Fresh};
@@ -13,14 +15,14 @@ use resp::Count;
 pub const SMALL: usize = 2048;
 
 // What is asked of a table: the time of the call, and the length of the reply buffer.
-#[derive(Drop)]
+#[derive(Clone, Copy)]
 pub struct Query {
     pub time: u64,
     pub room: usize,
 }
 
 // The number of the command's words, or document 01's number of the refusal.
-#[derive(Drop)]
+#[derive(Clone, Copy)]
 pub enum Entry {
     Passed(usize),
     Refused(u32),
@@ -60,7 +62,7 @@ pub fn gate(
 }
 
 // A command that its parse does not refuse: what it asks for, what stands under its key, and how many words it has.
-#[derive(Drop)]
+#[derive(Clone, Copy)]
 pub struct Ready {
     pub task: Task,
     pub found: Lookup,
@@ -69,7 +71,7 @@ pub struct Ready {
 
 // What is known before a command is carried out: tests 1 to 4 refuse it, and it has no reply; tests 5 to 11 do, of BITFIELD only 5
 // to 7; or it is ready.
-#[derive(Drop)]
+#[derive(Clone, Copy)]
 pub enum Prepared {
     Refused(u32),
     Wrong(u32),

@@ -1,4 +1,6 @@
 // What each command does to the table, once its key is looked up, and what it answers.
+#![tactic(auto)]
+
 mod fields;
 
 ghost use Rattle.live.specs.Under.{shape_of};

@@ -1,4 +1,6 @@
 // What becomes of the expiry: test 10.
+#![tactic(auto)]
+
 ghost use Rattle.std.specs.Prelude.{◌≡◌, false, true, cond, ℕ, ◌+◌, ◌*◌, ◌≤◌, leb};
 ghost use Rattle.model.specs.Checked.{ok};
 ghost use Rattle.model.specs.Table.{time_limit};
@@ -10,7 +12,7 @@ use command::Expire;
 use record::TIME_LIMIT;
 
 // What is said of the expiry: nothing, KEEPTTL, or a time word with its number.
-#[derive(Drop)]
+#[derive(Clone, Copy)]
 pub enum Lifetime {
     Unsaid,
     Kept,
@@ -22,7 +24,7 @@ pub enum Lifetime {
 }
 
 // What becomes of the expiry with number 0, or the number of the refusal.
-#[derive(Drop)]
+#[derive(Clone, Copy)]
 pub struct ReadExpire {
     pub number: u32,
     pub expire: Expire,

@@ -1,4 +1,6 @@
 // A command that comes a few bytes at a time: each call is handed one piece more.
+#![tactic(auto)]
+
 ghost use Rattle.model.specs.Table.{form128};
 ghost use Rattle.model.specs.Call.{call};
 ghost use Rattle.feed.specs.Feeds.{Feeds, inputs};
@@ -8,7 +10,7 @@ use reply::Answer;
 
 // What a piece comes to: no whole command yet, and so many bytes are held; or so many bytes of the piece are taken and this is the answer, and
 // nothing is held.
-#[derive(Drop)]
+#[derive(Clone, Copy)]
 pub enum Progress {
     More(usize),
     Answered(usize, Answer),

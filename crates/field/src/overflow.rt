@@ -10,7 +10,7 @@ use command::{IntType, Mode};
 use number::Sum;
 
 // A sum against a type's range.
-#[derive(Drop)]
+#[derive(Clone, Copy)]
 enum Side {
     Under,
     Over,
@@ -18,7 +18,7 @@ enum Side {
 }
 
 // The number that is stored and answered; none where the sum does not fit and the mode is FAIL.
-#[derive(Drop)]
+#[derive(Clone, Copy)]
 pub enum Increased {
     Number(i64),
     Nothing,

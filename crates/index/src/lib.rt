@@ -1,4 +1,6 @@
 // The index of the keys of a table, in two borrowed arrays: a slot is entered, and a key is found by it.
+#![tactic(auto)]
+
 mod hash;
 
 ghost use Rattle.std.specs.Prelude.{◌≡◌, ◌-◌, ◌<◌, ◌≤◌, length, bit_and, slice_index};

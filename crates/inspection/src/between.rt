@@ -6,7 +6,7 @@ use difference::ROOM;
 use terminal::print;
 
 // How many bytes tell what differs, and whether they were written.
-#[derive(Drop)]
+#[derive(Clone, Copy)]
 pub struct Printed {
     pub len: usize,
     pub written: bool,

@@ -17,7 +17,7 @@ const CENTURY: u64 = 36524;
 const FOUR_YEARS: u64 = 1461;
 
 // A year that begins in March, and a day of it, from 0 on.
-#[derive(Drop)]
+#[derive(Clone, Copy)]
 struct Place {
     year: u64,
     day: u64,

@@ -1,4 +1,6 @@
 // What a table holds, a line for each record, what is wrong with it, and what differs between two.
+#![tactic(auto)]
+
 mod between;
 mod calendar;
 mod fault;

@@ -1,4 +1,6 @@
 // The check of a table: its length, each record, and that no two keys are equal. It makes the index by which a key is then found.
+#![tactic(auto)]
+
 mod size;
 
 ghost use Rattle.std.specs.Prelude.{◌≡◌, ◌≤◌, ◌<◌, length, get_or};
@@ -13,7 +15,7 @@ pub use size::has_size;
 const TABLE_LIMIT: usize = 256;
 
 // What the test of a record comes to: no slot entered before it shares its bucket, the chain of its bucket began with a slot, or it is no record.
-#[derive(Drop)]
+#[derive(Clone, Copy)]
 pub enum Entered {
     Alone,
     After(usize),

@@ -1,4 +1,6 @@
 // The record under a command's key, live or expired, and what a write makes of its version, flags and expiry. Nothing here writes.
+#![tactic(auto)]
+
 ghost use Rattle.std.specs.Prelude.{ℕ, ◌≡◌};
 ghost use Rattle.std.proofs.Math.Option.{Option, some};
 ghost use Rattle.model.specs.Optional.{is_some};
@@ -17,7 +19,7 @@ use record::{Attributes, Form};
 use table::Found;
 
 // What stands under a key: a live record, an expired one, or none.
-#[derive(Drop)]
+#[derive(Clone, Copy)]
 pub enum Lookup {
     Live { slot: usize, attributes: Attributes },
     Expired { slot: usize },
@@ -25,7 +27,7 @@ pub enum Lookup {
 }
 
 // Where a command works: the form of the records, the time, and what stands under its key.
-#[derive(Drop)]
+#[derive(Clone, Copy)]
 pub struct Target {
     pub form: Form,
     pub time: u64,
@@ -33,21 +35,21 @@ pub struct Target {
 }
 
 // The flags of a record that is written: those stored, or these.
-#[derive(Drop)]
+#[derive(Clone, Copy)]
 pub enum Flags {
     Keep,
     Set(u32),
 }
 
 // The version of a record that is written; none where it is the highest and would rise.
-#[derive(Drop)]
+#[derive(Clone, Copy)]
 pub enum Version {
     Value(u64),
     Highest,
 }
 
 // What NX, XX and VER let a write do: go on, answer nil, or be refused as stale.
-#[derive(Drop)]
+#[derive(Clone, Copy)]
 pub enum Admission {
     Granted,
     Nil,

@@ -1,25 +1,27 @@
 // Decimal text and signed numbers of 64 bits, both ways, and their exact sum.
+#![tactic(auto)]
+
 ghost use Rattle.std.specs.Prelude.{◌≡◌, [], ◌∷◌, ℕ, suc, ◌+◌, ◌-◌, ◌*◌, ◌/◌, ◌%◌, ◌^◌, ◌≤◌, ◌<◌, length, leb, pos, neg_ℤ, nat_abs, ◌+ℤ◌};
 ghost use Rattle.model.specs.Number.{read_digits, read_magnitude, read_signed, read_below, read_version, read_flags, signed_limit, nat_text, int_text};
 ghost use Rattle.slice.specs.Wrote.{Wrote};
 ghost use Rattle.number.specs.Answer.{sign_length, signed_from, natural_from, sum_from, negative_from};
 
 // A signed number that a text says, if it says one in range.
-#[derive(Drop)]
+#[derive(Clone, Copy)]
 pub enum Signed {
     Value(i64),
     Bad,
 }
 
 // A natural number that a text says, if it says one in range.
-#[derive(Drop)]
+#[derive(Clone, Copy)]
 pub enum Natural {
     Value(u64),
     Bad,
 }
 
 // A sum, if it fits, or the side on which it leaves 64 signed bits.
-#[derive(Drop)]
+#[derive(Clone, Copy)]
 pub enum Sum {
     Fits(i64),
     Under,
@@ -184,7 +186,7 @@ pub fn add(a: i64, b: i64) -> Sum
 }
 
 // How many digits a number has, and the power of ten of the first.
-#[derive(Drop)]
+#[derive(Clone, Copy)]
 struct Scale {
     digits: usize,
     power: u64,
@@ -229,7 +231,7 @@ fn power_below(power: u64) -> u64
 }
 
 // The byte of a digit, and what is left of the number after it.
-#[derive(Drop)]
+#[derive(Clone, Copy)]
 struct Digit {
     byte: u8,
     rest: u64,

@@ -1,4 +1,6 @@
 // The options of a command: which are given, at most one of each group. Kinds and groups go by the model's numbers.
+#![tactic(auto)]
+
 ghost use Rattle.std.specs.Prelude.{◌≡◌, List, [], ℕ, ◌<◌, length, drop};
 ghost use Rattle.model.specs.Command.{kind_no, opt_rule_of};
 ghost use Rattle.model.specs.Options.{Given as ModelGiven, takes, enough, options_in};
@@ -29,7 +31,7 @@ pub const WITH_VERSION: usize = 8;
 pub const WITH_FLAGS: usize = 9;
 
 // Whether a group has an option, which one, and the number of the word of its number.
-#[derive(Drop)]
+#[derive(Clone, Copy)]
 pub struct Given {
     pub given: bool,
     pub opt: Opt,
@@ -40,20 +42,20 @@ pub struct Given {
 const NO_WORD: u8 = 16;
 
 // The options of a command, by the numbers of their groups.
-#[derive(Drop)]
+#[derive(Clone, Copy)]
 pub struct Options {
     pub groups: [Given; 10],
 }
 
 // The option that a word spells and the number of the word after it and its number, or that it is wrong.
-#[derive(Drop)]
+#[derive(Clone, Copy)]
 pub enum Taken {
     As { given: Given, next: usize },
     Wrong,
 }
 
 // The options of a command with number 0, or the number of the refusal.
-#[derive(Drop)]
+#[derive(Clone, Copy)]
 pub struct Collected {
     pub number: u32,
     pub options: Options,

@@ -1,4 +1,6 @@
 // The index of a table: the numbers of its slots in use, in byte order of their keys, in a borrowed list of a byte each.
+#![tactic(auto)]
+
 mod index;
 mod keys;
 mod pass;
@@ -10,7 +12,7 @@ pub use pass::is_index;
 pub use search::{find_place, put_in, take_out};
 
 // How a key stands to another in byte order.
-#[derive(Drop)]
+#[derive(Clone, Copy)]
 pub enum Comparison {
     Earlier,
     Equal,
@@ -18,7 +20,7 @@ pub enum Comparison {
 }
 
 // The place at which a key stands in a list, or the one at which it would be put in.
-#[derive(Drop)]
+#[derive(Clone, Copy)]
 pub enum Place {
     At(usize),
     Gap(usize),

@@ -1,4 +1,6 @@
 // The words of a command as a command by value, or the number of the first test that refuses it, 5 to 11.
+#![tactic(auto)]
+
 mod action;
 
 ghost use Rattle.std.specs.Prelude.{◌≡◌, List, ℕ, ◌≤◌, length};

@@ -1,4 +1,6 @@
 // The part of a table that a call means: the whole, the owner's records or the installer's.
+#![tactic(auto)]
+
 mod slots;
 
 ghost use Rattle.model.specs.Optional.{is_some};
@@ -11,7 +13,7 @@ use record::Form;
 pub use slots::{Slots, meets_at, slots_of};
 
 // Who calls; `Whole` is a call without a boundary. The owner has the records below the boundary, the installer the rest.
-#[derive(Drop)]
+#[derive(Clone, Copy)]
 pub enum Party {
     Whole,
     Owner,
@@ -19,21 +21,21 @@ pub enum Party {
 }
 
 // Which part of a table a call means. The boundary is counted in records; for the whole table it is not looked at.
-#[derive(Drop)]
+#[derive(Clone, Copy)]
 pub struct View {
     pub party: Party,
     pub boundary: usize,
 }
 
 // The part of a call, by the places of its first byte and behind its last; or document 01's number of the refusal.
-#[derive(Drop)]
+#[derive(Clone, Copy)]
 pub enum Part {
     Bytes { start: usize, end: usize },
     Refused(u32),
 }
 
 // The place of a boundary in the table's bytes, or the number of the refusal.
-#[derive(Drop)]
+#[derive(Clone, Copy)]
 pub enum Cut {
     At(usize),
     Refused(u32),

@@ -6,7 +6,7 @@ ghost use Rattle.partition.specs.Slots.{meets_at, Covers};
 use crate::{Party, View};
 
 // The slots from `first` up to, not including, `end`.
-#[derive(Drop)]
+#[derive(Clone, Copy)]
 pub struct Slots {
     pub first: usize,
     pub end: usize,

@@ -1,4 +1,6 @@
 // The pieces of a reply in RESP2. Each is written over a part of a borrowed buffer and gives back the place after it.
+#![tactic(auto)]
+
 ghost use Rattle.std.specs.Prelude.{◌∷◌, ◌++◌, ◌+◌, ◌≤◌, length};
 ghost use Rattle.model.specs.Bytes.{crlf};
 ghost use Rattle.model.specs.Resp.{array_mark, line, scalar_bytes, simple, error, integer, bulk, nil};

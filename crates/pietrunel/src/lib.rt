@@ -1,4 +1,6 @@
 // The library's functions for C: a slice crosses as a pointer and a length.
+#![tactic(auto)]
+
 mod view;
 
 ghost use Rattle.std.specs.Prelude.{◌≡◌};

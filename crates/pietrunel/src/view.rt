@@ -5,7 +5,7 @@ ghost use Rattle.pietrunel.specs.Views.{view_of, named_view};
 use partition::{Party, View};
 
 // The view that numbers name, or that they name none.
-#[derive(Drop)]
+#[derive(Clone, Copy)]
 pub enum Named {
     View(View),
     Unknown,

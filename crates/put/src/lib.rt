@@ -1,4 +1,6 @@
 // A value into its slot: tests 15 to 17, and the record with all its fields.
+#![tactic(auto)]
+
 ghost use Rattle.std.specs.Prelude.{◌≤◌, ◌≡◌, length};
 ghost use Rattle.std.proofs.Math.Option.{none};
 ghost use Rattle.model.specs.Checked.{given};
@@ -17,7 +19,7 @@ use record::Attributes;
 use table::Found;
 
 // The version that was stored, or document 01's number of the refusal.
-#[derive(Drop)]
+#[derive(Clone, Copy)]
 pub enum Stored {
     Version(u64),
     Refused(u32),

@@ -1,4 +1,6 @@
 // One record: its forms and layout, its check, its fields, and the writes to it.
+#![tactic(auto)]
+
 mod fields;
 mod valid;
 mod writes;
@@ -12,14 +14,14 @@ pub use valid::{is_record, readable};
 pub use writes::{clear, join, set_attributes, write};
 
 // The forms of a record, by their size in bytes.
-#[derive(Drop)]
+#[derive(Clone, Copy)]
 pub enum Form {
     Of128,
     Of192,
 }
 
 // What a record in use has besides its key and its value.
-#[derive(Drop)]
+#[derive(Clone, Copy)]
 pub struct Attributes {
     pub flags: u32,
     pub version: u64,

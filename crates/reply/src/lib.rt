@@ -1,4 +1,6 @@
 // Replies in RESP2: whole replies, and the answer to a call.
+#![tactic(auto)]
+
 mod refusal;
 mod whole;
 
@@ -7,7 +9,7 @@ pub use refusal::error;
 pub use whole::{count, elements, get, minus_one, nil, number, set, stale, swap};
 
 // Document 01's number and the reply's length.
-#[derive(Drop)]
+#[derive(Clone, Copy)]
 pub struct Answer {
     pub number: u32,
     pub len: usize,

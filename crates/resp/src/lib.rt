@@ -1,4 +1,6 @@
 // The words of a command in RESP2, taken by a reader that holds the command and its place in it. No function but `read_words` holds a reader.
+#![tactic(auto)]
+
 ghost use Rattle.std.specs.Prelude.{◌≡◌, false, ◌+◌, ◌≤◌, ◌<◌, length, drop, get_or, leb};
 ghost use Rattle.model.specs.Resp.{command_limit, word_limit};
 ghost use Rattle.model.specs.Parse.{word_at};
@@ -6,14 +8,14 @@ ghost use Rattle.resp.specs.Words.{digit_at, ends_line, line_from, word_from};
 ghost use Rattle.resp.specs.Spans.{words_of, span_in, Begins, Notes, noted, WordsRead, Splits, Split};
 
 // A line's number, and the place after the line.
-#[derive(Drop)]
+#[derive(Clone, Copy)]
 pub enum Line {
     Number { value: usize, next: usize },
     Malformed,
 }
 
 // Where a word's bytes begin and end, and the place after its CR LF.
-#[derive(Drop)]
+#[derive(Clone, Copy)]
 pub enum Word {
     At {
         start: usize,
@@ -24,21 +26,21 @@ pub enum Word {
 }
 
 // The number of words of a whole command.
-#[derive(Drop)]
+#[derive(Clone, Copy)]
 pub enum Count {
     Words(usize),
     Malformed,
 }
 
 // Where the bytes of a word begin and end.
-#[derive(Drop)]
+#[derive(Clone, Copy)]
 pub struct Span {
     pub start: u16,
     pub end: u16,
 }
 
 // A borrowed command, and a place in it.
-#[derive(Drop)]
+#[derive(Clone, Copy)]
 pub struct Reader<'a> {
     pub command: &'a [u8],
     pub at: usize,

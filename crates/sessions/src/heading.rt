@@ -3,7 +3,7 @@ use number::Natural;
 use terminal::print;
 
 // Whether commands are calls of document 01 or 02, on a table of one record, and the time of a call.
-#[derive(Drop)]
+#[derive(Clone, Copy)]
 pub struct Setting {
     pub rows: bool,
     pub time: u64,

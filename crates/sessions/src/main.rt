@@ -3,6 +3,7 @@
 // document 002 is wrong, a heading says what stands in for it. The file stdout has the replies that the documents print or ask for; the lines
 // after a call of document 01 or 02, `version N`, `number N`, `table as before` and `128 zeros`, say in one form what document 01's columns
 // and "Also" lines say.
+#![tactic(auto)]
 
 mod compose;
 mod heading;

@@ -1,4 +1,6 @@
 // Calls on a table that two parties share: each works on the caller's part as on a table of its own.
+#![tactic(auto)]
+
 ghost use Rattle.model.specs.Table.{form128};
 ghost use Rattle.model.specs.Call.{call_in};
 ghost use Rattle.model.specs.CurrentValue.{current_value_in};

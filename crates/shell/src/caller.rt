@@ -9,14 +9,14 @@ use number::Natural;
 use partition::{Party, View};
 
 // The part of the table that a call means, and its time.
-#[derive(Drop)]
+#[derive(Clone, Copy)]
 pub struct Caller {
     pub view: View,
     pub clock: Clock,
 }
 
 // The view that the options name; or that they name none, which is told.
-#[derive(Drop)]
+#[derive(Clone, Copy)]
 pub enum Viewed {
     Known(View),
     Refused,

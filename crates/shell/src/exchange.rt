@@ -8,7 +8,7 @@ use partition::View;
 use reply::Answer;
 
 // The answer, and whether the table is to be written.
-#[derive(Drop)]
+#[derive(Clone, Copy)]
 pub struct Exchange {
     pub answer: Answer,
     pub write: bool,

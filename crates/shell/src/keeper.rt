@@ -16,14 +16,14 @@ const ANSWERS: i32 = 4;
 const ANSWER: usize = 64;
 
 // The time of a command, and the rights of the file that it may make.
-#[derive(Drop)]
+#[derive(Clone, Copy)]
 pub struct Grant {
     pub time: u64,
     pub rights: Rights,
 }
 
 // What became of asking for the lock: it is granted, or it is not, which was told already.
-#[derive(Drop)]
+#[derive(Clone, Copy)]
 pub enum Asked {
     Granted(Grant),
     Refused,

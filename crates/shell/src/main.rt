@@ -1,5 +1,7 @@
 // Commands on a table file, from the command line or from standard input. The script `pietrunel` at the repository's root runs this program
 // and a keeper beside it, which has the table's lock and the time, and takes the exit status.
+#![tactic(auto)]
+
 mod caller;
 mod comparison;
 mod creation;

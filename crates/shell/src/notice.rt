@@ -3,7 +3,7 @@ use status::REFUSED;
 use terminal::complain;
 
 // The time of a call: one that is set, or that of the lock's grant.
-#[derive(Drop)]
+#[derive(Clone, Copy)]
 pub enum Clock {
     Set(u64),
     Machine,

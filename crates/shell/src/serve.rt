@@ -15,7 +15,7 @@ use terminal::{print, print_reply};
 const NEW_SIZE: usize = 2048;
 
 // What became of a command and the size of its table; or that the table could not be read or written, which is told.
-#[derive(Drop)]
+#[derive(Clone, Copy)]
 enum Tried {
     Done(Exchange, usize),
     Failed,

@@ -13,7 +13,7 @@ const PIECE: usize = 4096;
 
 // Where a session stands: the bytes of the last read from `from` to `end` are not taken yet, `held` bytes of a command are, and the exit status is
 // that of the commands so far.
-#[derive(Drop)]
+#[derive(Clone, Copy)]
 struct Session {
     from: usize,
     end: usize,
@@ -22,7 +22,7 @@ struct Session {
 }
 
 // What a turn comes to: the session goes on, or it ends with an exit status.
-#[derive(Drop)]
+#[derive(Clone, Copy)]
 enum Next {
     On(Session),
     End(u64),

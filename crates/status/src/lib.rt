@@ -1,4 +1,6 @@
 // What an answer, or a comparison of two tables, comes to at the command line: whether the table's file is written, and the exit status.
+#![tactic(auto)]
+
 ghost use Rattle.std.specs.Prelude.{◌≡◌};
 ghost use Rattle.status.specs.Status.{to_write, status_of, told_status, status_after, open_after, status_between};
 

@@ -1,4 +1,6 @@
 // The store: one call on a borrowed table, from bytes to bytes.
+#![tactic(auto)]
+
 mod task;
 
 ghost use Rattle.model.specs.Table.{form128};

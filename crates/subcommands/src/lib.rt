@@ -1,4 +1,6 @@
 // The words of BITFIELD's subcommands as subcommands by value, or the number of the first test that refuses them: 8 or 9.
+#![tactic(auto)]
+
 mod word;
 
 ghost use Rattle.std.specs.Prelude.{◌≡◌, ◌≤◌, ◌<◌, length, drop};
@@ -11,7 +13,7 @@ use command::{Field, IntType, Mode, ModeNamed, Operation, Sub, SubName, SubNamed
 use word::SubRead;
 
 // The subcommands of a command, or document 01's number of the refusal.
-#[derive(Drop)]
+#[derive(Clone, Copy)]
 pub enum Collected {
     Subs(Subs),
     Refused(u32),
@@ -19,7 +21,7 @@ pub enum Collected {
 
 // What stands at a word: the mode of an OVERFLOW, a subcommand, one whose type, offset or number is wrong (9), or none (8). `next` is the word
 // after it.
-#[derive(Drop)]
+#[derive(Clone, Copy)]
 enum Step {
     Mode { mode: Mode, next: usize },
     Sub { sub: Sub, next: usize },

@@ -13,28 +13,28 @@ use command::{Field, IntType, Operation, Sub};
 use number::{Natural, Signed};
 
 // The type that a word says, if it says one.
-#[derive(Drop)]
+#[derive(Clone, Copy)]
 enum TypeRead {
     Known(IntType),
     Wrong,
 }
 
 // The first bit that a word says, if it says one.
-#[derive(Drop)]
+#[derive(Clone, Copy)]
 enum OffsetRead {
     Bit(u64),
     Wrong,
 }
 
 // The field that two words say, if they say one.
-#[derive(Drop)]
+#[derive(Clone, Copy)]
 enum FieldRead {
     Known(Field),
     Wrong,
 }
 
 // The subcommand that words say, if they say one.
-#[derive(Drop)]
+#[derive(Clone, Copy)]
 pub enum SubRead {
     Sub(Sub),
     Wrong,

@@ -1,4 +1,6 @@
 // The slots of a table: the part that is a slot, the search for a free slot, and the writes to a slot.
+#![tactic(auto)]
+
 mod change;
 mod lookup;
 
@@ -12,7 +14,7 @@ pub use lookup::free_slot;
 use record::Form;
 
 // The number of a slot, or that there is none.
-#[derive(Drop)]
+#[derive(Clone, Copy)]
 pub enum Found {
     At(usize),
     Nothing,

@@ -1,5 +1,7 @@
 // A table in a file. It is loaded whole, and replaced whole: a new file beside it is written, synced and renamed over it, so that a crash
 // leaves the old table or the new one. Whoever calls sees to it that no other process replaces the table meanwhile.
+#![tactic(auto)]
+
 mod name;
 mod reading;
 mod replacing;
@@ -12,7 +14,7 @@ pub use replacing::replace;
 pub const SPACE: usize = 32896;
 
 // What became of reading a file into a buffer: how many bytes came, that there is no such file, or that it failed. Where a name is at hand, a failure was told already.
-#[derive(Drop)]
+#[derive(Clone, Copy)]
 pub enum Loaded {
     Bytes(usize),
     Missing,
@@ -20,7 +22,7 @@ pub enum Loaded {
 }
 
 // The mode of a file, and the numbers of its owner and group; 4294967295 stands for those that a new file has by itself.
-#[derive(Drop)]
+#[derive(Clone, Copy)]
 pub struct Rights {
     pub mode: u32,
     pub owner: u32,

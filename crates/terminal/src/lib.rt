@@ -1,4 +1,6 @@
 // Text for a terminal: bytes as they are, numbers, bytes in quotes with the unprintable ones escaped, and replies as redis-cli prints them.
+#![tactic(auto)]
+
 mod digits;
 mod escape;
 mod page;

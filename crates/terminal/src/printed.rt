@@ -6,7 +6,7 @@ use crate::page::{PAGE, add, add_natural, print_page};
 use crate::text::find;
 
 // How far a reply is read, and how far its page is filled.
-#[derive(Drop)]
+#[derive(Clone, Copy)]
 struct Step {
     next: usize,
     at: usize,

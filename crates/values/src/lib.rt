@@ -1,4 +1,6 @@
 // The numbers of the options of a command, and what the options say. The words of the numbers are parts of the borrowed command.
+#![tactic(auto)]
+
 ghost use Rattle.std.specs.Prelude.{◌≡◌, List, [], ℕ, ◌≤◌, length};
 ghost use Rattle.model.specs.Checked.{ok, check};
 ghost use Rattle.model.specs.Table.{time_limit};
@@ -17,35 +19,35 @@ use number::{Natural, Signed};
 use options::{Given, Options};
 
 // What is said of the expiry, or that the number is wrong.
-#[derive(Drop)]
+#[derive(Clone, Copy)]
 pub enum ReadLifetime {
     Value(Lifetime),
     Bad,
 }
 
 // What becomes of the version, or that the number is wrong.
-#[derive(Drop)]
+#[derive(Clone, Copy)]
 pub enum ReadChange {
     Value(Change),
     Bad,
 }
 
 // The flags, or that the number is wrong.
-#[derive(Drop)]
+#[derive(Clone, Copy)]
 pub enum ReadFlags {
     Value(u32),
     Bad,
 }
 
 // MIN or MAX, or that the number is wrong.
-#[derive(Drop)]
+#[derive(Clone, Copy)]
 pub enum ReadBound {
     Value(Bound),
     Bad,
 }
 
 // What the options with numbers say.
-#[derive(Drop)]
+#[derive(Clone, Copy)]
 pub struct Numbers {
     pub lifetime: Lifetime,
     pub change: Change,
@@ -55,14 +57,14 @@ pub struct Numbers {
 }
 
 // What the options with numbers say, or that a number is wrong.
-#[derive(Drop)]
+#[derive(Clone, Copy)]
 pub enum ReadNumbers {
     Values(Numbers),
     Bad,
 }
 
 // What the options of a command say.
-#[derive(Drop)]
+#[derive(Clone, Copy)]
 pub struct Said {
     pub terms: Terms,
     pub flags: u32,
@@ -74,7 +76,7 @@ pub struct Said {
 }
 
 // What the options of a command say with number 0, or the number of the refusal.
-#[derive(Drop)]
+#[derive(Clone, Copy)]
 pub struct ReadSaid {
     pub number: u32,
     pub said: Said,

@@ -1,4 +1,6 @@
 // The commands that write a value: what each gives back.
+#![tactic(auto)]
+
 ghost use Rattle.std.specs.Prelude.{◌≡◌, [], ◌<◌, ◌≤◌, length};
 ghost use Rattle.model.specs.Number.{version_limit};
 ghost use Rattle.model.specs.Execute.{total};
@@ -19,7 +21,7 @@ use put::Stored;
 use reply::Answer;
 
 // How a command answers once its value is stored. The flag says whether WITHVERSION is given.
-#[derive(Drop)]
+#[derive(Clone, Copy)]
 enum Success {
     // EXSET
     Set(bool),

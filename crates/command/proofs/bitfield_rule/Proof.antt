@@ -3,5 +3,5 @@ use mathlib.Core.Path.{refl}
 use Rattle.command.proofs.bitfield_rule.Statement.{statement}
 use Rattle.command.proofs.bitfield_rule.Tie as tie
 
-pub bitfield-rule-spec : {M : Type 1} → statement M
-bitfield-rule-spec = tie.close (tie.spec (λ c. refl))
+pub bitfield_rule_spec : {M : Type 1} → statement M
+bitfield_rule_spec = tie.close (tie.spec (λ c. refl))

@@ -10,19 +10,19 @@ use Rattle.command.proofs.rule_of.Tie as tie
 row : {n m : Name} → n ≡ m → rule_of (model_name m) ≡ rule_of (model_name n)
 row e = sym (ap (λ (n : Name). rule_of (model_name n)) e)
 
-pub rule-of-spec : {M : Type 1} → statement M
-rule-of-spec =
+pub rule_of_spec : {M : Type 1} → statement M
+rule_of_spec =
     tie.close
     (tie.spec
     (λ c. search rules) (λ c. search rules) (λ c. search rules) (λ c. search rules) (λ c. search rules)
     (λ c. search rules) (λ c. search rules) (λ c. search rules) (λ c. search rules) (λ c. search rules)
-    (λ c. row c.enum_told.given.1)
-    (λ c. row c.enum-told2.given.1)
-    (λ c. row c.enum-told3.given.1)
-    (λ c. row c.enum-told4.given.1)
-    (λ c. row c.enum-told5.given.1)
-    (λ c. row c.enum-told6.given.1)
-    (λ c. row c.enum-told7.given.1)
-    (λ c. row c.enum-told8.given.1)
-    (λ c. row c.enum-told9.given.1)
-    (λ c. row c.enum-told10.given.1))
+    (λ c. row c.enum_told-1.given.1)
+    (λ c. row c.enum_told-in-Exget-1.given.1)
+    (λ c. row c.enum_told-in-Exsetver-1.given.1)
+    (λ c. row c.enum_told-in-Exincrby-1.given.1)
+    (λ c. row c.enum_told-in-Excas-1.given.1)
+    (λ c. row c.enum_told-in-Excad-1.given.1)
+    (λ c. row c.enum_told-in-Exappend-1.given.1)
+    (λ c. row c.enum_told-in-Exprepend-1.given.1)
+    (λ c. row c.enum_told-in-Exgae-1.given.1)
+    (λ c. row c.enum_told-in-Del-1.given.1))

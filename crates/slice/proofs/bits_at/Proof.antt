@@ -7,7 +7,7 @@ use Rattle.slice.proofs.bits_at.Tie as tie
 returns : tie.Need-returns
 returns c =
     let a = c.before.before.before.args in
-    rw (c.before.get8.ensures, c.get82.ensures) (or-words-zero a.at a.s.now)
+    rw (c.before.get8.ensures, c.get8-2.ensures) (or-words-zero a.at a.s.now)
 
-pub bits-at-spec : {M : Type 1} → statement M
-bits-at-spec = tie.close (tie.spec (λ c κs. search rules) (λ c. search rules) (λ c κs. search rules) returns)
+pub bits_at_spec : {M : Type 1} → statement M
+bits_at_spec = tie.close (tie.spec (λ c κs. search rules) (λ c. search rules) (λ c κs. search rules) returns)

@@ -14,47 +14,47 @@ use borrow.Author.Rules.{rules}
 use Rattle.slice.proofs.bits_from.Statement.{statement}
 use Rattle.slice.proofs.bits_from.Tie as tie
 
-abbrev invariant-loop : tie.invariant-loop
+abbrev invariant-loop : tie.invariant-loop-i
 invariant-loop s n limit bits₀ i₀ bits i =
     (i ≤ limit) × (i % 16 ≡ 0) × (zeros_from n s ≡ zeros_left bits (max n i) s) × (eqb bits 0 ≡ true → zeros_from limit s ≡ true)
 
-abbrev decreases-loop : tie.decreases-loop
+abbrev decreases-loop : tie.decreases-loop-i
 decreases-loop s n limit bits₀ i₀ bits i = limit - i
 
 -- the last 16 bytes, which are tested before the loop
-last : (c : tie.After-bits-at invariant-loop decreases-loop)
+last : (c : tie.After-bits_at-bits invariant-loop decreases-loop)
     → let a = c.before.before.args in
-    eqb c.bits_at.result 0 ≡ zeros_from a.limit a.s.now
+    eqb c.bits_at-bits.result 0 ≡ zeros_from a.limit a.s.now
 last c =
     let s = c.before.before in
     let a = s.args in
-    let tested : eqb c.bits_at.result 0 ≡ is_zero (part a.limit 16 a.s.now) = c.bits_at.ensures in
+    let tested : eqb c.bits_at-bits.result 0 ≡ is_zero (part a.limit 16 a.s.now) = c.bits_at-bits.ensures in
     tested ∙ ap is_zero (take_all 16 (drop a.limit a.s.now) (omega (arith, length-drop a.limit a.s.now)))
 
-loop-holds : tie.Need-loop-init invariant-loop decreases-loop
+loop-holds : tie.Need-loop-i-init invariant-loop decreases-loop
 loop-holds c =
     let s = c.before.before in
     let m : max s.args.n 0 ≡ s.args.n = omega arith in
-    (omega arith, omega arith, rw m (last-first s.args.s.now c.bits_at.result s.args.n s.args.limit (last c) (omega arith)), λ z. sym (last c) ∙ z)
+    (omega arith, omega arith, rw m (last-first s.args.s.now c.bits_at-bits.result s.args.n s.args.limit (last c) (omega arith)), λ z. sym (last c) ∙ z)
 
-loop-again : tie.Need-loop-preserved invariant-loop decreases-loop
+loop-again : tie.Need-loop-i-preserved invariant-loop decreases-loop
 loop-again c =
     let l = c.before.before.before in
     let s = l.before.before.before in
     let n = s.args.n in
-    let i = l.loop.i in
-    let tested = some_more s.args.s.now 16 l.loop.bits c.bits-at2.result (max n i) (max n (i + 16)) (rw c.before.max.ensures at c.bits-at2.ensures) (omega arith) (omega arith) in
-    (omega arith, omega arith, l.loop.invariant.2 ∙ tested, λ z. l.loop.invariant.3 (or-left-zero l.loop.bits c.bits-at2.result z))
+    let i = l.loop-i.i in
+    let tested = some_more s.args.s.now 16 l.loop-i.bits c.bits_at-bits-in-loop-i.result (max n i) (max n (i + 16)) (rw c.before.max.ensures at c.bits_at-bits-in-loop-i.ensures) (omega arith) (omega arith) in
+    (omega arith, omega arith, l.loop-i.invariant.2 ∙ tested, λ z. l.loop-i.invariant.3 (or-left-zero l.loop-i.bits c.bits_at-bits-in-loop-i.result z))
 
 returns : tie.Need-returns invariant-loop decreases-loop
 returns c =
     let l = c.before in
     let a = l.before.before.before.args in
-    let m : max a.n l.loop.i ≡ a.limit = omega arith in
-    implied _ _ l.loop.invariant.3 ∙ sym (rw m at l.loop.invariant.2)
+    let m : max a.n l.loop-i.i ≡ a.limit = omega arith in
+    implied _ _ l.loop-i.invariant.3 ∙ sym (rw m at l.loop-i.invariant.2)
 
-pub bits-from-spec : {M : Type 1} → statement M
-bits-from-spec =
+pub bits_from_spec : {M : Type 1} → statement M
+bits_from_spec =
     tie.close
     (tie.spec
     invariant-loop decreases-loop
