@@ -35,13 +35,11 @@ part-is a n s = ap (λ (k : ℕ). take k (drop a s)) (add-sub_cancel_left a n)
 
 returns : tie.Need-returns-in-InCommand
 returns c =
-    let l = c in
-    shows-part (ap model_shown (sym l.in-InCommand.is) ∙ l.locate.ensures) (record { bytes = part-is l.in-InCommand.start l.in-InCommand.len _; place = refl; shown = refl })
+    shows-part (ap model_shown (sym c.in-InCommand.is) ∙ c.locate.ensures) (record { bytes = part-is c.in-InCommand.start c.in-InCommand.len _; place = refl; shown = refl })
 
 returns-2 : tie.Need-returns-in-InTable
 returns-2 c =
-    let l = c in
-    shows-part (ap model_shown (sym l.in-InTable.is) ∙ l.locate.ensures) (record { bytes = part-is l.in-InTable.start l.in-InTable.len _; place = refl; shown = refl })
+    shows-part (ap model_shown (sym c.in-InTable.is) ∙ c.locate.ensures) (record { bytes = part-is c.in-InTable.start c.in-InTable.len _; place = refl; shown = refl })
 
 returns-3 : tie.Need-returns-in-Nothing
 returns-3 c = shows-part (ap model_shown (sym c.in-Nothing.is) ∙ c.locate.ensures) (record { bytes = refl; place = refl; shown = refl })

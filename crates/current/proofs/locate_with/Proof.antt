@@ -75,13 +75,13 @@ returns-3 c =
 
 returns-4 : tie.Need-returns-in-Action
 returns-4 c =
-    let v = c in let a = v.before.before.before in let r = a.before in
+    let a = c.before.before.before in let r = a.before in
     let p = r.before.before.before.before.before in
     let s = start p in
     value-passed (query p) s.args.table.now s.args.command.now (sized p).room-room.ensures (ready r).entered
     (c.shown_by.ensures
     ∙ shown-is form128 s.args.time s.args.table.now (words_of s.args.command.now) a.in-Action.action (acted a) (parsed a).action _
-    (λ h. v.span_at-value.ensures ∙ (ready r).entered.splits.spans 2 h) (ready r).under)
+    (λ h. c.span_at-value.ensures ∙ (ready r).entered.splits.spans 2 h) (ready r).under)
 
 pub locate_with_spec : {M : Type 1} → statement M
 locate_with_spec =

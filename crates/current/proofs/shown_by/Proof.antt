@@ -22,30 +22,27 @@ at c =
 
 swapped-requires : tie.Need-swapped-requires
 swapped-requires c κs =
-    let a = c in
-    let s = start a.before.before.before.before in
-    subst (λ (x : Action). ActionAt x s.args.value) a.in-Excas.is s.requires.1
+    let s = start c.before.before.before.before in
+    subst (λ (x : Action). ActionAt x s.args.value) c.in-Excas.is s.requires.1
 
 returns-2 : tie.Need-returns-then-swap-attributes
 returns-2 c =
-    let a = c in
-    let l = a.before.before.before.before.before in
+    let l = c.before.before.before.before.before in
     let s = start l in
-    c.stored-then-swap-attributes.ensures ∙ sym (shows-other s.args.table.now s.args.target s.args.action s.args.value l.in-Live.is a.in-Excas.is (λ e. omega arith))
+    c.stored-then-swap-attributes.ensures ∙ sym (shows-other s.args.table.now s.args.target s.args.action s.args.value l.in-Live.is c.in-Excas.is (λ e. omega arith))
 
 returns-4 : tie.Need-returns-else-swap-attributes
 returns-4 c =
-    let a = c in
-    let l = a.before.before.before.before.before in
+    let l = c.before.before.before.before.before in
     let s = start l in
-    c.swapped.ensures ∙ sym (shows-own s.args.table.now s.args.target s.args.action s.args.value l.in-Live.is a.in-Excas.is (omega arith))
+    c.swapped.ensures ∙ sym (shows-own s.args.table.now s.args.target s.args.action s.args.value l.in-Live.is c.in-Excas.is (omega arith))
 
 pub shown_by_spec : {M : Type 1} → statement M
 shown_by_spec =
     tie.close
     (tie.spec
     (λ c. search rules)
-    (λ c. let s = c in sym (shows-absent s.args.table.now s.args.target s.args.action s.args.value c.in_default.in_default-own.keys2))
+    (λ c. sym (shows-absent c.args.table.now c.args.target c.args.action c.args.value c.in_default.in_default-own.keys2))
     (λ c. search rules)
     (λ c κs. at c.before)
     (λ c. search rules)

@@ -19,8 +19,7 @@ inside s =
     inside-table f s.args.table.now s.requires.0 s.args.slot (within f s.args.table.now s.args.slot s.requires.1)
 
 -- the length of the value that is read
-long : (c : tie.After-value-len) → let s = c in
-    length c.value-len.result.now ≡ length (record_in (form_of s.args.form) s.args.table.now s.args.slot).value
+long : (c : tie.After-value-len) → length c.value-len.result.now ≡ length (record_in (form_of c.args.form) c.args.table.now c.args.slot).value
 long c = ap length c.value-len.ensures ∙ ap (λ (r : Record). length r.value) c.record_at.ensures.is
 
 pub stored_spec : {M : Type 1} → statement M

@@ -8,8 +8,7 @@ use Rattle.current.proofs.swapped.Tie as tie
 
 returns-2 : tie.Need-returns
 returns-2 c =
-    let e = c in
-    by-version e.args.value (ap checked_version (sym e.in-Value.is) ∙ e.version_after.ensures)
+    by-version c.args.value (ap checked_version (sym c.in-Value.is) ∙ c.version_after.ensures)
 
 pub swapped_spec : {M : Type 1} → statement M
 swapped_spec =

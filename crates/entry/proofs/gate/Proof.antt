@@ -50,7 +50,7 @@ gate_spec =
     tie.close
     (tie.spec
     (λ c κs. search rules) (λ c κs. search rules) (λ c. search rules) (λ c. search rules)
-    (λ c. let k = c in faulty (sym k.check.ensures.answer ∙ c.if-not-check.true))
+    (λ c. faulty (sym c.check.ensures.answer ∙ c.if-not-check.true))
     (λ c. search rules) (λ c. search rules)
     (λ c. late (good c.before) (omega arith))
     (λ c. search rules) (λ c. search rules)

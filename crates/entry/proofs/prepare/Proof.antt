@@ -47,15 +47,13 @@ returns-2 c =
 
 returns-3 : tie.Need-returns-in-Task
 returns-3 c =
-    let w = c in
-    let a = w in
-    let p = a.before.before.before in
+    let p = c.before.before.before in
     let n = counted p in
     let s = start (gated n) in
     record {
       entered = entered n;
-      parsed = ap (checked_parsed (words_of s.args.command.now)) (sym a.in-Task.is) ∙ p.parse.ensures;
-      under = subst (λ (k : List ℕ). IsUnder form128 s.args.table.now s.args.query.time k c.look_up-found.result) w.word_or_empty-key.ensures c.look_up-found.ensures;
+      parsed = ap (checked_parsed (words_of s.args.command.now)) (sym c.in-Task.is) ∙ p.parse.ensures;
+      under = subst (λ (k : List ℕ). IsUnder form128 s.args.table.now s.args.query.time k c.look_up-found.result) c.word_or_empty-key.ensures c.look_up-found.ensures;
     }
 
 pub prepare_spec : {M : Type 1} → statement M

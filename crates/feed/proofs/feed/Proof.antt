@@ -22,7 +22,7 @@ add-t16 : tie.Need-overflow_add-result
 add-t16 c = let m = c.before.before.before in omega (arith, more-short (told m c.in-More.is))
 
 command-requires : tie.Need-command-command-requires
-command-requires c κs = let n = c in let m = n.before.before.before in whole-within (told m n.in-Whole.is)
+command-requires c κs = let m = c.before.before.before in whole-within (told m c.in-Whole.is)
 
 returns : tie.Need-returns-in-More
 returns c =
@@ -31,14 +31,13 @@ returns c =
 
 returns-2 : tie.Need-returns-in-Refused
 returns-2 c =
-    let n = c in let m = n.before.before.before in let a = (start m).args in
-    feeds-refused (call form128) a.table.now a.time a.reply.now (told m n.in-Refused.is)
+    let m = c.before.before.before in let a = (start m).args in
+    feeds-refused (call form128) a.table.now a.time a.reply.now (told m c.in-Refused.is)
 
 returns-3 : tie.Need-returns-in-Whole
 returns-3 c =
-    let k = c in let p = k in let n = p in
-    let m = n.before.before.before.before.before.before.before.before.before.before.before in let a = (start m).args in
-    feeds-whole (call form128) a.table.now a.time a.reply.now (told m n.in-Whole.is) p.command-command.ensures k.call-answer.ensures
+    let m = c.before.before.before.before.before.before.before.before.before.before.before in let a = (start m).args in
+    feeds-whole (call form128) a.table.now a.time a.reply.now (told m c.in-Whole.is) c.command-command.ensures c.call-answer.ensures
 
 pub feed_spec : {M : Type 1} → statement M
 feed_spec =

@@ -57,9 +57,8 @@ returns c =
 
 returns-4 : tie.Need-returns-in-Refused
 returns-4 c =
-    let l = c in
-    let s = l.before.before.before.before in
-    found s l.in-Owner.is (Refused l.in-Refused.number) (subst (Cuts (f s) (n s) (t s)) l.in-Refused.is l.place_of.ensures owner)
+    let s = c.before.before.before.before in
+    found s c.in-Owner.is (Refused c.in-Refused.number) (subst (Cuts (f s) (n s) (t s)) c.in-Refused.is c.place_of.ensures owner)
 
 returns-5 : tie.Need-returns-else-passes
 returns-5 c =
@@ -92,9 +91,8 @@ returns-2 c =
 
 returns-6 : tie.Need-returns-in-Refused-place_of
 returns-6 c =
-    let l = c in
-    let s = l.before.before.before.before in
-    found s l.in-Installer.is (Refused l.in-Refused-place_of.number) (subst (Cuts (f s) (n s) (t s)) l.in-Refused-place_of.is l.place_of-in-Installer.ensures installer)
+    let s = c.before.before.before.before in
+    found s c.in-Installer.is (Refused c.in-Refused-place_of.number) (subst (Cuts (f s) (n s) (t s)) c.in-Refused-place_of.is c.place_of-in-Installer.ensures installer)
 
 returns-7 : tie.Need-returns-else-passes-2
 returns-7 c =
@@ -109,5 +107,5 @@ part_in_spec =
     (λ c. search rules) (λ c. search rules) (λ c κs. search rules) (λ c. search rules) (λ c. search rules)
     (λ c. omega (arith, place-within _ _ _ (owner-cut c))) (λ c. omega (arith, place-within _ _ _ (owner-cut c))) (λ c. search rules) (λ c κs. search rules) returns
     (λ c. search rules) (λ c κs. search rules) (λ c. search rules) (λ c. search rules)
-    (λ c. let l = c in sym (length-take-le _ _ (place-within _ _ _ (installer-cut l)))) (λ c κs. search rules) returns-2
+    (λ c. sym (length-take-le _ _ (place-within _ _ _ (installer-cut c)))) (λ c κs. search rules) returns-2
     (λ c. found c.before.before c.in-Whole.is (Bytes 0 (length (t c.before.before))) (record { start = refl; end = refl; low = omega arith; high = omega arith; tests = refl })) returns-4 returns-5 returns-6 returns-7)

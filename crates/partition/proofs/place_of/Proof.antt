@@ -51,10 +51,9 @@ returns-2 c =
 
 returns-3 : tie.Need-returns-then-reads
 returns-3 c =
-    let e = c in
-    let a = e.args in
+    let a = c.args in
     bad-boundary form128 a.boundary a.table.now (sym c.reads.ensures ∙ c.if-reads.true)
-    (ap (λ (m : ℕ). leb 1 a.boundary && ltb a.boundary m) (sym e.count.ensures) ∙ e.if-good.false)
+    (ap (λ (m : ℕ). leb 1 a.boundary && ltb a.boundary m) (sym c.count.ensures) ∙ c.if-good.false)
 
 returns-4 : tie.Need-returns
 returns-4 c =

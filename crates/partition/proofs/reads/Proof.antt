@@ -23,25 +23,21 @@ decreases-loop table form above₀ above = above
 
 returns : tie.Need-returns-then-not-has_size invariant-loop decreases-loop
 returns c =
-    let s = c in
-    sym (wrong-length form128 s.args.table.now (sym c.has_size.ensures ∙ c.if-not-has_size.true))
+    sym (wrong-length form128 c.args.table.now (sym c.has_size.ensures ∙ c.if-not-has_size.true))
 
 loop-holds : tie.Need-loop-above-init invariant-loop decreases-loop
 loop-holds c = (omega (arith, c.count-above.ensures), λ j low high. absurd (omega (arith, c.count-above.ensures)))
 
 -- the slot is one of the table's
-within : (l : tie.In-loop-above invariant-loop decreases-loop) → let s = l in
-    l.loop-above.above - 1 < count_of form128 s.args.table.now
+within : (l : tie.In-loop-above invariant-loop decreases-loop) → l.loop-above.above - 1 < count_of form128 l.args.table.now
 within l = omega (arith, l.loop-above.invariant.0)
 
 slot-requires : tie.Need-slot-requires invariant-loop decreases-loop
 slot-requires c κs =
-    let s = c in
-    inside-count form128 s.args.table.now (c.loop-above.above - 1) (within c)
+    inside-count form128 c.args.table.now (c.loop-above.above - 1) (within c)
 
 -- what the test says of the slot
-told : (c : tie.After-passes invariant-loop decreases-loop) → let s = c in
-    c.passes.result ≡ is_some (read_slot form128 (record_at form128 (c.loop-above.above - 1) s.args.table.now))
+told : (c : tie.After-passes invariant-loop decreases-loop) → c.passes.result ≡ is_some (read_slot form128 (record_at form128 (c.loop-above.above - 1) c.args.table.now))
 told c =
     let l = c.before.before in
     let t = l.args.table.now in
@@ -50,17 +46,15 @@ told c =
 
 returns-2 : tie.Need-returns-then-not-passes invariant-loop decreases-loop
 returns-2 c =
-    let s = c in
-    sym (unread form128 s.args.table.now _ (within c.before.before.before) (sym (told c.before) ∙ c.if-not-passes.true))
+    sym (unread form128 c.args.table.now _ (within c.before.before.before) (sym (told c.before) ∙ c.if-not-passes.true))
 
 loop-again : tie.Need-loop-above-preserved invariant-loop decreases-loop
 loop-again c =
-    let l = c in
-    let s = l in
+    let s = c in
     let t = s.args.table.now in
-    let above : l.loop-above.above ≡ l.loop-above.above - 1 + 1 = omega arith in (
-      omega (arith, l.loop-above.invariant.0),
-      read_more form128 t (l.loop-above.above - 1) (sym (told c.before) ∙ c.if-not-passes.false) (subst (ReadFrom form128 t) above l.loop-above.invariant.1),
+    let above : c.loop-above.above ≡ c.loop-above.above - 1 + 1 = omega arith in (
+      omega (arith, c.loop-above.invariant.0),
+      read_more form128 t (c.loop-above.above - 1) (sym (told c.before) ∙ c.if-not-passes.false) (subst (ReadFrom form128 t) above c.loop-above.invariant.1),
     )
 
 returns-3 : tie.Need-returns invariant-loop decreases-loop

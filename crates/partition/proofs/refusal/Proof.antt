@@ -32,9 +32,8 @@ returns c =
 
 returns-2 : tie.Need-returns-in-Refused
 returns-2 c =
-    let l = c in
-    let a = l.args in
-    sym (ap refusal_of (subst (Finds form128 a.view a.table.now) l.in-Refused.is l.part_in.ensures))
+    let a = c.args in
+    sym (ap refusal_of (subst (Finds form128 a.view a.table.now) c.in-Refused.is c.part_in.ensures))
 
 returns-3 : tie.Need-returns-else-passes
 returns-3 c =

@@ -23,10 +23,10 @@ told c e =
     e c.feed.ensures
 
 returns : tie.Need-returns-in-More
-returns c = let n = c in let t = told n.before.before.before.before.before.before.before n.in-More.is in (ap code_of t.0, t.1)
+returns c = let t = told c.before.before.before.before.before.before.before c.in-More.is in (ap code_of t.0, t.1)
 
 returns-2 : tie.Need-returns-in-Answered
-returns-2 c = let n = c in let t = told n.before.before.before.before.before.before.before n.in-Answered.is in (ap code_of t.0, t.1)
+returns-2 c = let t = told c.before.before.before.before.before.before.before c.in-Answered.is in (ap code_of t.0, t.1)
 
 pub pietrunel_feed_spec : {M : Type 1} → statement M
 pietrunel_feed_spec =

@@ -17,18 +17,14 @@ called t time c b e {a} {new} {reply} h = subst (λ (o : Option View). Called (c
 
 returns : tie.Need-returns-in_default
 returns c =
-    let v = c in
-    let a = v.args in
-    called a.table.now a.time a.command.now a.reply.now (sym (ap named_view c.in_default.is) ∙ v.view_of.ensures)
+    let a = c.args in
+    called a.table.now a.time a.command.now a.reply.now (sym (ap named_view c.in_default.is) ∙ c.view_of.ensures)
     (record { number = refl; length = refl; table = refl; reply = refl })
 
 returns-2 : tie.Need-returns
 returns-2 c =
-    let k = c in
-    let l = k in
-    let v = l in
-    let a = v.args in
-    called a.table.now a.time a.command.now a.reply.now (sym (ap named_view l.in-View.is) ∙ v.view_of.ensures) k.call-done.ensures
+    let a = c.args in
+    called a.table.now a.time a.command.now a.reply.now (sym (ap named_view c.in-View.is) ∙ c.view_of.ensures) c.call-done.ensures
 
 pub pietrunel_shared_call_spec : {M : Type 1} → statement M
 pietrunel_shared_call_spec =

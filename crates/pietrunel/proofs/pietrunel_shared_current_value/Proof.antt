@@ -30,13 +30,11 @@ returns c = located-at (named c.before (ap named_view c.in_default.is)) (record 
 
 returns-2 : tie.Need-returns-in_default-part_in
 returns-2 c =
-    let p = c in
-    let l = p in
-    let v = l.in-View.view in
-    let a = l.args in
+    let v = c.in-View.view in
+    let a = c.args in
     located-at
-    (sym (shown-refused form128 (model_view v) a.table.now (subst (Finds form128 v a.table.now) c.in_default-part_in.is p.part_in.ensures) a.time a.command.now)
-    ∙ named l.before.before.before (ap named_view l.in-View.is))
+    (sym (shown-refused form128 (model_view v) a.table.now (subst (Finds form128 v a.table.now) c.in_default-part_in.is c.part_in.ensures) a.time a.command.now)
+    ∙ named c.before.before.before (ap named_view c.in-View.is))
     (record { shown = refl; in-command = refl; start = refl; length = refl })
 
 -- ---- the part
@@ -69,25 +67,22 @@ module _ (c : tie.In-Bytes) where
 
 add_start : tie.Need-overflow_add-start
 add_start c =
-    let k = c in
-    let f = k.before.before.before.before.before.before.before in
+    let f = c.before.before.before.before.before.before.before in
     let a = (s f).args in
     let b = part (first f) (size f) a.table.now in
     let i = is-part f in
-    let low = start-within (first f) b a.time a.command.now (own f) k.pietrunel_current_value-shown.ensures c.if-in_table.true (inside b a.time a.command.now) in
-    record { fits = omega (arith, low, length-take (size f) (drop (first f) a.table.now), i.low, k.in-Bytes.known_told-in-Bytes-1-own.given.1.0.1) }
+    let low = start-within (first f) b a.time a.command.now (own f) c.pietrunel_current_value-shown.ensures c.if-in_table.true (inside b a.time a.command.now) in
+    record { fits = omega (arith, low, length-take (size f) (drop (first f) a.table.now), i.low, c.in-Bytes.known_told-in-Bytes-1-own.given.1.0.1) }
 
 returns-3 : tie.Need-returns-then-in_table
 returns-3 c =
-    let k = c in
-    let f = k.before.before.before.before.before.before.before in
-    located-at (moved f) (located-moved (first f) (own f) k.pietrunel_current_value-shown.ensures c.if-in_table.true)
+    let f = c.before.before.before.before.before.before.before in
+    located-at (moved f) (located-moved (first f) (own f) c.pietrunel_current_value-shown.ensures c.if-in_table.true)
 
 returns-4 : tie.Need-returns-else-in_table
 returns-4 c =
-    let k = c in
-    let f = k.before.before.before.before.before.before in
-    located-at (moved f) (located-kept (first f) (own f) k.pietrunel_current_value-shown.ensures c.if-in_table.false)
+    let f = c.before.before.before.before.before.before in
+    located-at (moved f) (located-kept (first f) (own f) c.pietrunel_current_value-shown.ensures c.if-in_table.false)
 
 pub pietrunel_shared_current_value_spec : {M : Type 1} → statement M
 pietrunel_shared_current_value_spec =

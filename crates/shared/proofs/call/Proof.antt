@@ -44,16 +44,14 @@ is-part c =
 
 returns : tie.Need-returns-in-Refused
 returns c =
-    let l = c in
-    let a = l.args in
-    refused (model_view a.view) a.table.now a.time a.command.now a.reply.now (subst (Finds form128 a.view a.table.now) l.in-Refused.is l.part_in.ensures)
+    let a = c.args in
+    refused (model_view a.view) a.table.now a.time a.command.now a.reply.now (subst (Finds form128 a.view a.table.now) c.in-Refused.is c.part_in.ensures)
 
 returns-2 : tie.Need-returns-in-Bytes
 returns-2 c =
-    let k = c in
-    let l = k.before.before.before.before.before.before.before in
+    let l = c.before.before.before.before.before.before.before in
     let a = l.args in
-    on-part (model_view a.view) a.table.now a.time a.command.now a.reply.now (is-part l) k.call.ensures
+    on-part (model_view a.view) a.table.now a.time a.command.now a.reply.now (is-part l) c.call.ensures
 
 pub call_spec : {M : Type 1} → statement M
 call_spec =

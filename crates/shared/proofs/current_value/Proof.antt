@@ -20,14 +20,13 @@ is-part c =
 
 returns : tie.Need-returns-in_default
 returns c =
-    let p = c in
-    let a = p.args in
-    shows-at (shown-refused form128 (model_view a.view) a.table.now (subst (Finds form128 a.view a.table.now) c.in_default.is p.part_in.ensures) a.time a.command.now) (record { bytes = refl; place = refl; shown = refl })
+    let a = c.args in
+    shows-at (shown-refused form128 (model_view a.view) a.table.now (subst (Finds form128 a.view a.table.now) c.in_default.is c.part_in.ensures) a.time a.command.now) (record { bytes = refl; place = refl; shown = refl })
 
 -- what the part shows, in the table
-shown : (c : tie.After-current_value-value) → let l = c in let a = l.args in
+shown : (c : tie.After-current_value-value) → let a = c.args in
     current_value_in form128 (model_view a.view) a.table.now a.time a.command.now
-    ≡ shifted l.in-Bytes.start (current_value form128 (part l.in-Bytes.start (l.in-Bytes.end - l.in-Bytes.start) a.table.now) a.time a.command.now)
+    ≡ shifted c.in-Bytes.start (current_value form128 (part c.in-Bytes.start (c.in-Bytes.end - c.in-Bytes.start) a.table.now) a.time a.command.now)
 shown c =
     let l = c.before.before.before in
     let a = l.args in
@@ -36,18 +35,16 @@ shown c =
 returns-2 : tie.Need-returns-then-shown
 returns-2 c =
     let k = c.before in
-    let l = k in
-    let a = l.args in
+    let a = k.args in
     shows-at (shown k)
-    (shows-table l.in-Bytes.start (l.in-Bytes.end - l.in-Bytes.start) refl refl a.time _ (inside _ a.time a.command.now) c.if-shown.true k.current_value-value.ensures)
+    (shows-table k.in-Bytes.start (k.in-Bytes.end - k.in-Bytes.start) refl refl a.time _ (inside _ a.time a.command.now) c.if-shown.true k.current_value-value.ensures)
 
 returns-3 : tie.Need-returns
 returns-3 c =
     let k = c.before in
-    let l = k in
-    let a = l.args in
-    let s = current_value form128 (part l.in-Bytes.start (l.in-Bytes.end - l.in-Bytes.start) a.table.now) a.time a.command.now in
-    shows-at (shown k ∙ hidden l.in-Bytes.start s (sym k.current_value-value.ensures.shown ∙ c.if-shown.false)) (record { bytes = refl; place = refl; shown = c.if-shown.false })
+    let a = k.args in
+    let s = current_value form128 (part k.in-Bytes.start (k.in-Bytes.end - k.in-Bytes.start) a.table.now) a.time a.command.now in
+    shows-at (shown k ∙ hidden k.in-Bytes.start s (sym k.current_value-value.ensures.shown ∙ c.if-shown.false)) (record { bytes = refl; place = refl; shown = c.if-shown.false })
 
 pub current_value_spec : {M : Type 1} → statement M
 current_value_spec =

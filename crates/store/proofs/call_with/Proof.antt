@@ -67,19 +67,17 @@ returns c =
 
 returns-2 : tie.Need-returns-in-Wrong
 returns-2 c =
-    let e = c in
-    let n = e.before.before.before.before in
+    let n = c.before.before.before.before in
     let w = wrong n in
     let s = start n.before.before.before.before.before in
-    called-passed (query s) s.args.table.now s.args.command.now refl w.entered (does-refuse _ s.args.table.now _ _ _ _ (run s (sym w.parsed)) e.error.ensures)
+    called-passed (query s) s.args.table.now s.args.command.now refl w.entered (does-refuse _ s.args.table.now _ _ _ _ (run s (sym w.parsed)) c.error.ensures)
 
 returns-3 : tie.Need-returns-in-Ready
 returns-3 c =
-    let x = c in
-    let a = x.before.before.before.before.before.before.before.before in
+    let a = c.before.before.before.before.before.before.before.before in
     let s = start a.before.before.before.before.before in
     let r = ready a in
-    called-passed (query s) s.args.table.now s.args.command.now refl r.entered (does-as (run s (sym r.parsed)) x.carry_out.ensures)
+    called-passed (query s) s.args.table.now s.args.command.now refl r.entered (does-as (run s (sym r.parsed)) c.carry_out.ensures)
 
 pub call_with_spec : {M : Type 1} → statement M
 call_with_spec =

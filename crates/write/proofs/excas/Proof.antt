@@ -23,46 +23,38 @@ value-is c = c.value-old.ensures ∙ ap (λ (r : Record). r.value) c.record_at.e
 
 minus-one-requires : tie.Need-minus_one-requires
 minus-one-requires c κs =
-    let s = c in
-    minus_one-in s.requires.0.room
+    minus_one-in c.requires.0.room
 
 returns : tie.Need-returns-in_default
 returns c =
-    let s = c in
-    does-answer _ s.args.table.now _ _ _ _ (excas-absent s.args.table.now s.args.target _ _ c.in_default.in_default-own.keys2 _) c.minus_one.ensures
+    does-answer _ c.args.table.now _ _ _ _ (excas-absent c.args.table.now c.args.target _ _ c.in_default.in_default-own.keys2 _) c.minus_one.ensures
 
 record-at-requires : tie.Need-record_at-requires
 record-at-requires c κs =
-    let s = c in
-    (s.requires.0.under.sound.reads, in-use-here (shape_of s.args.target) s.args.table.now _ _ c.in-Live.is s.requires.0.under.sound.at)
+    (c.requires.0.under.sound.reads, in-use-here (shape_of c.args.target) c.args.table.now _ _ c.in-Live.is c.requires.0.under.sound.at)
 
 stale-requires : tie.Need-stale-requires
 stale-requires c κs =
-    let s = c in
-    let h = live_here_lem (shape_of s.args.target) s.args.table.now _ _ c.in-Live.is s.requires.0.under.sound.at in
-    (stale-in s.requires.0.room _ _ h.range (value-is c.before), h.range.version-to)
+    let h = live_here_lem (shape_of c.args.target) c.args.table.now _ _ c.in-Live.is c.requires.0.under.sound.at in
+    (stale-in c.requires.0.room _ _ h.range (value-is c.before), h.range.version-to)
 
 returns-2 : tie.Need-returns-then-swap-attributes
 returns-2 c =
-    let s = c in
-    does-answer _ s.args.table.now _ _ _ _ (excas-live s.args.table.now s.args.target _ _ _ _ c.in-Live.is s.args.swap ∙ rw (ne_eqb _ _ c.if-swap-attributes.true))
-    (replied-stale (live_here s.args.table.now s.args.target _ c.in-Live.attributes) _ (value-is c.before.before.before.before) c.stale.ensures)
+    does-answer _ c.args.table.now _ _ _ _ (excas-live c.args.table.now c.args.target _ _ _ _ c.in-Live.is c.args.swap ∙ rw (ne_eqb _ _ c.if-swap-attributes.true))
+    (replied-stale (live_here c.args.table.now c.args.target _ c.in-Live.attributes) _ (value-is c.before.before.before.before) c.stale.ensures)
 
 store-value-requires : tie.Need-store_value-stored-requires
 store-value-requires c κs =
-    let s = c in
-    (s.requires.0.under.sound, (s.requires.0.key, s.requires.1))
+    (c.requires.0.under.sound, (c.requires.0.key, c.requires.1))
 
 finish-requires : tie.Need-finish-requires
 finish-requires c κs =
-    let s = c in
-    finish-in s.requires.0 (swapping (model_expire s.args.swap.expire)) _ _ tt c.store_value-stored.ensures
+    finish-in c.requires.0 (swapping (model_expire c.args.swap.expire)) _ _ tt c.store_value-stored.ensures
 
 returns-3 : tie.Need-returns
 returns-3 c =
-    let s = c in
-    does-as (excas-own s.args.table.now s.args.target _ _ _ _ c.in-Live.is s.args.swap c.if-swap-attributes.false ∙ write_new s.args.table.now s.args.target _ _ _ _ _ refl)
-    (c.finish.ensures.does _ s.args.table.now _ _ c.store_value-stored.ensures)
+    does-as (excas-own c.args.table.now c.args.target _ _ _ _ c.in-Live.is c.args.swap c.if-swap-attributes.false ∙ write_new c.args.table.now c.args.target _ _ _ _ _ refl)
+    (c.finish.ensures.does _ c.args.table.now _ _ c.store_value-stored.ensures)
 
 pub excas_spec : {M : Type 1} → statement M
 excas_spec =

@@ -50,13 +50,11 @@ error-requires-2 c κs =
 
 store-number-requires : tie.Need-store_number-stored-requires
 store-number-requires c κs =
-    let s = c in
-    (s.requires.0.under.sound, s.requires.0.key)
+    (c.requires.0.under.sound, c.requires.0.key)
 
 finish-requires : tie.Need-finish-requires
 finish-requires c κs =
-    let s = c in
-    finish-in s.requires.0 (model_terms s.args.increment.terms) _ _ s.requires.1 c.store_number-stored.ensures
+    finish-in c.requires.0 (model_terms c.args.increment.terms) _ _ c.requires.1 c.store_number-stored.ensures
 
 returns-3 : tie.Need-returns-in-Refused
 returns-3 c =
@@ -66,13 +64,11 @@ returns-3 c =
 
 returns-4 : tie.Need-returns-in-Value
 returns-4 c =
-    let v = c in
-    let z = c in
-    let u = z.before.before.before.before.before.before.before.before.before in
+    let u = c.before.before.before.before.before.before.before.before.before in
     let s = begun u in
-    does-as ((let_by u.before.before).by u.in-Granted.is ∙ write_new s.args.table.now s.args.target _ _ _ (counted (model_increment s.args.increment)) (new_of s.args.increment z.in-Value.z) (counted_is s.args.increment _ (summed u ∙ ap checked_counted z.in-Value.is)))
-    ((subst (λ (y : ℤ). Finishes s.args.reply.now c.finish.new.reply v.store_number-stored.result (count_reply s.args.increment.with_version y) c.finish.result) (back_is (whole v.before.before.before.before.before.before.before.before)) c.finish.ensures).does _ s.args.table.now _ _
-    (subst (λ (y : ℤ). Puts (shape_of s.args.target) s.args.table.now v.store_number-stored.new.table v.store_number-stored.result (put_in s.args.table.now s.args.target s.args.key.now (model_terms s.args.increment.terms) none (int_text y))) (back_is (whole v.before.before.before.before.before.before.before.before)) v.store_number-stored.ensures))
+    does-as ((let_by u.before.before).by u.in-Granted.is ∙ write_new s.args.table.now s.args.target _ _ _ (counted (model_increment s.args.increment)) (new_of s.args.increment c.in-Value.z) (counted_is s.args.increment _ (summed u ∙ ap checked_counted c.in-Value.is)))
+    ((subst (λ (y : ℤ). Finishes s.args.reply.now c.finish.new.reply c.store_number-stored.result (count_reply s.args.increment.with_version y) c.finish.result) (back_is (whole c.before.before.before.before.before.before.before.before)) c.finish.ensures).does _ s.args.table.now _ _
+    (subst (λ (y : ℤ). Puts (shape_of s.args.target) s.args.table.now c.store_number-stored.new.table c.store_number-stored.result (put_in s.args.table.now s.args.target s.args.key.now (model_terms s.args.increment.terms) none (int_text y))) (back_is (whole c.before.before.before.before.before.before.before.before)) c.store_number-stored.ensures))
 
 pub exincrby_spec : {M : Type 1} → statement M
 exincrby_spec =
@@ -81,6 +77,6 @@ exincrby_spec =
     (λ c κs. search rules) (λ c. search rules) (λ c κs. nil-in (start c.before.before).requires.0.room)
     (λ c. search rules) (λ c κs. (error-in (start c.before.before).requires.0.room 12, omega arith, omega arith))
     (λ c. search rules) (λ c κs. search rules) (λ c. search rules) error-requires-2 (λ c. search rules) store-number-requires finish-requires
-    (λ c. search rules) (λ c. let d = c in turned-nil (let_by d.before.before.before.before.before) _ d.in-Nil.is c.nil.ensures)
-    (λ c. search rules) (λ c. let d = c in turned-stale (let_by d.before.before.before.before.before) _ d.in-Stale.is c.error.ensures)
+    (λ c. search rules) (λ c. turned-nil (let_by c.before.before.before.before.before) _ c.in-Nil.is c.nil.ensures)
+    (λ c. search rules) (λ c. turned-stale (let_by c.before.before.before.before.before) _ c.in-Stale.is c.error.ensures)
     (λ c. search rules) (λ c. search rules) returns-3 (λ c. search rules) (λ c. search rules) returns-4)

@@ -27,9 +27,9 @@ exset_spec =
     (λ c κs. search rules) (λ c. search rules) (λ c κs. nil-in (start c.before.before).requires.0.room)
     (λ c. search rules) (λ c κs. (error-in (start c.before.before).requires.0.room 12, omega arith, omega arith)) (λ c. search rules)
     store-value-requires
-    (λ c κs. let p = c in let s = start p.before.before.before.before.before.before in finish-in s.requires.0 (model_terms s.args.set.terms) _ _ s.requires.1.1 p.store_value-stored.ensures)
-    (λ c. search rules) (λ c. let d = c in turned-nil (let_by d.before.before.before.before.before) _ d.in-Nil.is c.nil.ensures)
-    (λ c. search rules) (λ c. let d = c in turned-stale (let_by d.before.before.before.before.before) _ d.in-Stale.is c.error.ensures)
+    (λ c κs. let s = start c.before.before.before.before.before.before in finish-in s.requires.0 (model_terms s.args.set.terms) _ _ s.requires.1.1 c.store_value-stored.ensures)
+    (λ c. search rules) (λ c. turned-nil (let_by c.before.before.before.before.before) _ c.in-Nil.is c.nil.ensures)
+    (λ c. search rules) (λ c. turned-stale (let_by c.before.before.before.before.before) _ c.in-Stale.is c.error.ensures)
     (λ c. search rules) (λ c. search rules)
-    (λ c. let p = c in let d = p in let a = (start d.before.before.before.before.before.before.before.before.before).args in
-    granted (let_by d.before.before.before.before.before.before.before.before.before) _ _ d.in-Granted.is (write_new a.table.now a.target _ _ _ _ _ refl) p.store_value-stored.ensures c.finish.ensures))
+    (λ c. let a = (start c.before.before.before.before.before.before.before.before.before).args in
+    granted (let_by c.before.before.before.before.before.before.before.before.before) _ _ c.in-Granted.is (write_new a.table.now a.target _ _ _ _ _ refl) c.store_value-stored.ensures c.finish.ensures))

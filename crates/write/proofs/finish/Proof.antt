@@ -10,24 +10,20 @@ use Rattle.write.proofs.finish.Tie as tie
 
 error-requires : tie.Need-error-requires
 error-requires c κs =
-    let s = c in
-    let h = subst StoredOk c.in-Refused.is s.requires.1 in
-    (error-in s.requires.0.room c.in-Refused.number, h.0, h.1)
+    let h = subst StoredOk c.in-Refused.is c.requires.1 in
+    (error-in c.requires.0.room c.in-Refused.number, h.0, h.1)
 
 reply-success-requires : tie.Need-reply_success-requires
 reply-success-requires c κs =
-    let s = c in
-    (s.requires.0, subst StoredOk c.in-Version.is s.requires.1)
+    (c.requires.0, subst StoredOk c.in-Version.is c.requires.1)
 
 returns : tie.Need-returns-in-Refused
 returns c =
-    let s = c in
-    subst (λ (r : Stored). Finishes s.args.reply.now c.error.new.reply r (reply_of s.args.success) c.error.result) (sym c.in-Refused.is) (finishes-refused c.error.ensures)
+    subst (λ (r : Stored). Finishes c.args.reply.now c.error.new.reply r (reply_of c.args.success) c.error.result) (sym c.in-Refused.is) (finishes-refused c.error.ensures)
 
 returns-2 : tie.Need-returns-in-Version
 returns-2 c =
-    let s = c in
-    subst (λ (r : Stored). Finishes s.args.reply.now c.reply_success.new.reply r (reply_of s.args.success) c.reply_success.result) (sym c.in-Version.is) (finishes-stored (reply_of s.args.success) c.reply_success.ensures)
+    subst (λ (r : Stored). Finishes c.args.reply.now c.reply_success.new.reply r (reply_of c.args.success) c.reply_success.result) (sym c.in-Version.is) (finishes-stored (reply_of c.args.success) c.reply_success.ensures)
 
 pub finish_spec : {M : Type 1} → statement M
 finish_spec =

@@ -19,31 +19,26 @@ whole c = record { sfits = c.in-Count.known_told-in-Count-1-own.given.1.0.1 }
 
 set-requires : tie.Need-set-requires
 set-requires c κs =
-    let s = c in
-    (set-in s.requires.0.room c.in-Set.with_version _ s.requires.1, s.requires.1)
+    (set-in c.requires.0.room c.in-Set.with_version _ c.requires.1, c.requires.1)
 
 count-requires : tie.Need-count-requires
 count-requires c κs =
-    let s = c in
-    (count-in s.requires.0.room c.in-Count.with_version _ _ (ap is_signed (back_is (whole c.before)) ∙ signed-fits _ (whole c.before)) s.requires.1, s.requires.1)
+    (count-in c.requires.0.room c.in-Count.with_version _ _ (ap is_signed (back_is (whole c.before)) ∙ signed-fits _ (whole c.before)) c.requires.1, c.requires.1)
 
 swap-requires : tie.Need-swap-requires
 swap-requires c κs =
-    let s = c in
-    (swap-in s.requires.0.room _ s.requires.1, s.requires.1)
+    (swap-in c.requires.0.room _ c.requires.1, c.requires.1)
 
 number-requires : tie.Need-number-requires
 number-requires c κs =
-    let s = c in
-    (number_in s.requires.0.room _ s.requires.1, s.requires.1)
+    (number_in c.requires.0.room _ c.requires.1, c.requires.1)
 
 returns : tie.Need-returns-in-Set
 returns c = rw c.in-Set.is c.set.ensures
 
 returns-2 : tie.Need-returns-in-Count
 returns-2 c =
-    let s = c in
-    rw c.in-Count.is (subst (λ (z : ℤ). Replied 0 (count_reply c.in-Count.with_version z s.args.version) s.args.reply.now c.count.new.reply c.count.result) (back_is (whole c.before.before.before.before)) c.count.ensures)
+    rw c.in-Count.is (subst (λ (z : ℤ). Replied 0 (count_reply c.in-Count.with_version z c.args.version) c.args.reply.now c.count.new.reply c.count.result) (back_is (whole c.before.before.before.before)) c.count.ensures)
 
 returns-3 : tie.Need-returns-in-Swap
 returns-3 c = rw c.in-Swap.is c.swap.ensures

@@ -19,8 +19,7 @@ next-digit-requires c κs =
 
 returns-4 : tie.Need-returns-in-LineEnd
 returns-4 c =
-    let a = c in let p = a in
-    c.to-in-LineEnd.ensures ∙ rw a.after.ensures (at p.before.before.before p.in-LineEnd.is)
+    c.to-in-LineEnd.ensures ∙ rw c.after.ensures (at c.before.before.before c.in-LineEnd.is)
 
 pub next_spec : {M : Type 1} → statement M
 next_spec =

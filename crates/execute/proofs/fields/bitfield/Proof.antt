@@ -22,8 +22,8 @@ tested c e = ap (λ (n : ℕ). all_end_within n (model_subs (start c).args.subs)
 -- a field ends past the value
 returns : tie.Need-returns-then-not-all_end_within
 returns c =
-    let e = c in let t = e in let w = t.before.before.before.before.before in let s = start w in
-    does-refuse _ s.args.table.now _ _ _ _ (ends-past s.args.table.now s.args.target s.args.subs _ (tested w (t.if-not-all_end_within.true))) e.error.ensures
+    let w = c.before.before.before.before.before in let s = start w in
+    does-refuse _ s.args.table.now _ _ _ _ (ends-past s.args.table.now s.args.target s.args.subs _ (tested w (c.if-not-all_end_within.true))) c.error.ensures
 
 pub bitfield_spec : {M : Type 1} → statement M
 bitfield_spec =
@@ -34,7 +34,7 @@ bitfield_spec =
     (λ c κs. let s = start c.before.before in (error-in s.requires.0.room 16, omega arith, omega arith))
     (λ c. search rules)
     returns
-    (λ c κs. let t = c in let w = t.before.before.before in let s = start w in (s.requires.0, (s.requires.1, tested w (t.if-not-all_end_within.false))))
+    (λ c κs. let w = c.before.before.before in let s = start w in (s.requires.0, (s.requires.1, tested w (c.if-not-all_end_within.false))))
     (λ c. search rules)
     (λ c. search rules)
     (λ c. search rules))

@@ -48,25 +48,20 @@ value-small c =
 -- stored
 returns-2 : tie.Need-returns
 returns-2 c =
-    let n = c in
-    let p = n in
-    let i = p in
-    let r = i.before.before.before.before.before.before.before.before.before.before.before.before.before.before in
+    let r = c.before.before.before.before.before.before.before.before.before.before.before.before.before.before in
     let s = start r in let a = s.args in let l = r.run_stored-ran.ensures in let d = ran a.table.now a.target a.subs in
-    does-as (written a.table.now a.target a.subs s.requires.1.1 _ l (not-false r.run_stored-ran.result.wrote i.if-not-ran.false))
-    ((n.finish.ensures (map result_scalar d.results) (answers-count a.table.now a.target a.subs) (text-is {d = d} l)).does _ a.table.now _ _
-    (puts-value a.table.now a.target a.subs s.requires.1.1 _ l p.store_value-stored.ensures))
+    does-as (written a.table.now a.target a.subs s.requires.1.1 _ l (not-false r.run_stored-ran.result.wrote c.if-not-ran.false))
+    ((c.finish.ensures (map result_scalar d.results) (answers-count a.table.now a.target a.subs) (text-is {d = d} l)).does _ a.table.now _ _
+    (puts-value a.table.now a.target a.subs s.requires.1.1 _ l c.store_value-stored.ensures))
 
 -- and not stored
 returns : tie.Need-returns-then-not-ran
 returns c =
-    let e = c in
-    let i = e in
-    let r = i.before.before.before.before.before.before.before.before.before in
+    let r = c.before.before.before.before.before.before.before.before.before in
     let s = start r in let a = s.args in let l = r.run_stored-ran.ensures in let d = ran a.table.now a.target a.subs in
     does-answer _ a.table.now _ _ _ _
-    (unwritten a.table.now a.target a.subs s.requires.1.1 _ l (not-true r.run_stored-ran.result.wrote i.if-not-ran.true))
-    (e.elements.ensures (map result_scalar d.results) (answers-count a.table.now a.target a.subs) (text-is {d = d} l))
+    (unwritten a.table.now a.target a.subs s.requires.1.1 _ l (not-true r.run_stored-ran.result.wrote c.if-not-ran.true))
+    (c.elements.ensures (map result_scalar d.results) (answers-count a.table.now a.target a.subs) (text-is {d = d} l))
 
 pub run_spec : {M : Type 1} → statement M
 run_spec =
@@ -75,8 +70,8 @@ run_spec =
     (λ c. search rules)
     (λ c. search rules)
     (λ c κs.
-    let s = c in let a = s.args in
-    (s.requires.0.under.sound, ((refl, limit-small a.target.form, omega arith), (runnable a.table.now a.target a.subs s.requires.1.1 s.requires.1.0, omega (arith, s.requires.1.0.few)))))
+    let a = c.args in
+    (c.requires.0.under.sound, ((refl, limit-small a.target.form, omega arith), (runnable a.table.now a.target a.subs c.requires.1.1 c.requires.1.0, omega (arith, c.requires.1.0.few)))))
     (λ c. text-within c.before.before.before.before.before)
     (λ c. text-part c.before.before.before.before.before.before)
     (λ c κs. answers-room c.before.before.before.before.before.before)
@@ -88,7 +83,7 @@ run_spec =
     (λ c κs. let r = c.before.before.before.before.before.before in let s = start r in (s.requires.0.under.sound, (s.requires.0.key, value-small r)))
     (λ c. text-within c.before.before.before.before.before.before.before.before.before)
     (λ c. text-part c.before.before.before.before.before.before.before.before.before.before)
-    (λ c κs. let p = c in let r = p.before.before.before.before.before.before.before.before.before.before.before in (finish-in (start r).requires.0 (swapping keep) _ _ tt p.store_value-stored.ensures, answers-room r))
+    (λ c κs. let r = c.before.before.before.before.before.before.before.before.before.before.before in (finish-in (start r).requires.0 (swapping keep) _ _ tt c.store_value-stored.ensures, answers-room r))
     (λ c. search rules)
     (λ c. search rules)
     returns-2)

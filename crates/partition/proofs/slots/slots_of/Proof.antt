@@ -15,17 +15,15 @@ returns c =
 
 returns-2 : tie.Need-returns-in-Owner
 returns-2 c =
-    let l = c in
-    let a = l.args in
-    subst (λ (p : Party). Covers (model_view (record { party = p; boundary = a.view.boundary })) a.n (record { first = 0; end = l.lower-boundary.result })) (sym c.in-Owner.is)
-    (covers-owner a.view.boundary a.n l.lower-boundary.result l.lower-boundary.ensures)
+    let a = c.args in
+    subst (λ (p : Party). Covers (model_view (record { party = p; boundary = a.view.boundary })) a.n (record { first = 0; end = c.lower-boundary.result })) (sym c.in-Owner.is)
+    (covers-owner a.view.boundary a.n c.lower-boundary.result c.lower-boundary.ensures)
 
 returns-3 : tie.Need-returns-in-Installer
 returns-3 c =
-    let l = c in
-    let a = l.args in
-    subst (λ (p : Party). Covers (model_view (record { party = p; boundary = a.view.boundary })) a.n (record { first = l.lower-boundary.result; end = a.n })) (sym c.in-Installer.is)
-    (covers-installer a.view.boundary a.n l.lower-boundary.result l.lower-boundary.ensures)
+    let a = c.args in
+    subst (λ (p : Party). Covers (model_view (record { party = p; boundary = a.view.boundary })) a.n (record { first = c.lower-boundary.result; end = a.n })) (sym c.in-Installer.is)
+    (covers-installer a.view.boundary a.n c.lower-boundary.result c.lower-boundary.ensures)
 
 pub slots_of_spec : {M : Type 1} → statement M
 slots_of_spec = tie.close (tie.spec (λ c κs. search rules) (λ c. search rules) (λ c. search rules) (λ c. search rules) returns returns-2 returns-3)

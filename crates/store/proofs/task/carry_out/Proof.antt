@@ -63,45 +63,45 @@ by-task s = ap (λ (k : Task). effect_in s.args.target k s.args.table.now s.args
 
 returns-2 : tie.Need-returns-in-Refused
 returns-2 c =
-    let e = c in let n = e in let r = n.before.before.before.before.before in let s = start (keyed r) in
+    let r = c.before.before.before.before.before in let s = start (keyed r) in
     does-refuse _ s.args.table.now _ _ _ _
-    (by-task s r.in-Bitfield.is ∙ fields-refused (words_of s.args.command.now) _ r.subcommands_in.ensures s.args.table.now s.args.target n.in-Refused.is)
-    e.error.ensures
+    (by-task s r.in-Bitfield.is ∙ fields-refused (words_of s.args.command.now) _ r.subcommands_in.ensures s.args.table.now s.args.target c.in-Refused.is)
+    c.error.ensures
 
 execute-requires : tie.Need-execute-requires
 execute-requires c κs =
-    let v = c in let a = v.before.before.before in
-    (ready a.before (acted a), action-fits a.in-Action.action (acted a) v.word_or_empty-value.ensures)
+    let a = c.before.before.before in
+    (ready a.before (acted a), action-fits a.in-Action.action (acted a) c.word_or_empty-value.ensures)
 
 error-requires : tie.Need-error-requires
 error-requires c κs =
-    let n = c in let r = n.before.before in let s = start (keyed r) in
-    let p = refused _ _ r.subcommands_in.ensures _ _ (read r) n.in-Refused.is in
-    (error-in s.requires.1.room n.in-Refused.number, omega (arith, p.least), omega (arith, p.most))
+    let r = c.before.before in let s = start (keyed r) in
+    let p = refused _ _ r.subcommands_in.ensures _ _ (read r) c.in-Refused.is in
+    (error-in s.requires.1.room c.in-Refused.number, omega (arith, p.least), omega (arith, p.most))
 
 bitfield-requires : tie.Need-bitfield-requires
 bitfield-requires c κs =
-    let n = c in let r = n.before.before.before in let s = start (keyed r) in (
-      ready (keyed r) (known _ _ r.subcommands_in.ensures _ _ (read r) n.in-Subs.is),
-      fields_fit _ _ r.subcommands_in.ensures _ _ (read r) n.in-Subs.is (few_words _ _ s.requires.0.0.decoded),
+    let r = c.before.before.before in let s = start (keyed r) in (
+      ready (keyed r) (known _ _ r.subcommands_in.ensures _ _ (read r) c.in-Subs.is),
+      fields_fit _ _ r.subcommands_in.ensures _ _ (read r) c.in-Subs.is (few_words _ _ s.requires.0.0.decoded),
     )
 
 returns : tie.Need-returns-in-Action
 returns c =
-    let x = c in let v = x in let a = v in let w = a.before.before.before.before.before.before.before.before.before in
+    let w = c.before.before.before.before.before.before.before.before.before in
     let s = start w in let g = s.args.target in
     does-as
-    (by-task s a.in-Action.is
-    ∙ action-done s.args.table.now g (words_of s.args.command.now) a.in-Action.action w.word_or_empty-key.ensures v.word_or_empty-value.ensures (under w))
-    x.execute.ensures
+    (by-task s c.in-Action.is
+    ∙ action-done s.args.table.now g (words_of s.args.command.now) c.in-Action.action w.word_or_empty-key.ensures c.word_or_empty-value.ensures (under w))
+    c.execute.ensures
 
 returns-3 : tie.Need-returns-in-Subs
 returns-3 c =
-    let b = c in let n = b in let r = n.before.before.before.before.before.before.before.before in let w = keyed r in let s = start w in
+    let r = c.before.before.before.before.before.before.before.before in let w = keyed r in let s = start w in
     does-as
     (by-task s r.in-Bitfield.is
-    ∙ fields-done (words_of s.args.command.now) _ r.subcommands_in.ensures s.args.table.now s.args.target n.in-Subs.is w.word_or_empty-key.ensures (under w))
-    b.bitfield.ensures
+    ∙ fields-done (words_of s.args.command.now) _ r.subcommands_in.ensures s.args.table.now s.args.target c.in-Subs.is w.word_or_empty-key.ensures (under w))
+    c.bitfield.ensures
 
 pub carry_out_spec : {M : Type 1} → statement M
 carry_out_spec =
