@@ -50,48 +50,48 @@ module _ {a b : ℤ} (fa : SFits w64 a) (fb : SFits w64 b) where
   fitting : mag (a +ℤ b) < 2 ^ 63 → sum_from (a +ℤ b) ≡ Fits (a +ℤ b)
   fitting h = simp (lt-ltb _ (2 ^ 63) h)
 
-sub-if2 : tie.Need-overflow-sub-if2
+sub-if2 : tie.Need-overflow_sub-b
 sub-if2 c =
-    let f = c.before.ranges in
-    simp (back_is f.b) (low_fits f.a f.b (simp (back_is f.b) at c.if1.true))
+    let f = c.ranges in
+    simp (back_is f.b) (low_fits f.a f.b (simp (back_is f.b) at c.if-b-lt0.true))
 
-returns : tie.Need-returns
+returns : tie.Need-returns-then-a-b
 returns c =
-    let f = c.before.before.ranges in
-    let s = simp (back_is f.b) at c.before.if1.true in
-    sym (under f.a f.b (simp (back_is f.a, back_is f.b, back_is (low_fits f.a f.b s)) at c.if2.true))
+    let f = c.ranges in
+    let s = simp (back_is f.b) at c.if-b-lt0.true in
+    sym (under f.a f.b (simp (back_is f.a, back_is f.b, back_is (low_fits f.a f.b s)) at c.if-a-b.true))
 
-sub-if3 : tie.Need-overflow-sub-if3
+sub-if3 : tie.Need-overflow_sub-b-else-b-lt0
 sub-if3 c =
-    let f = c.before.ranges in
-    simp (back_is f.b) (high_fits f.a f.b (simp (back_is f.b) at c.if1.false))
+    let f = c.ranges in
+    simp (back_is f.b) (high_fits f.a f.b (simp (back_is f.b) at c.if-b-lt0.false))
 
-returns-2 : tie.Need-returns-2
+returns-2 : tie.Need-returns-then-b-a
 returns-2 c =
-    let f = c.before.before.ranges in
-    let s = simp (back_is f.b) at c.before.if1.false in
-    sym (over f.a f.b (simp (back_is f.a, back_is f.b, back_is (high_fits f.a f.b s)) at c.if3.true))
+    let f = c.ranges in
+    let s = simp (back_is f.b) at c.if-b-lt0.false in
+    sym (over f.a f.b (simp (back_is f.a, back_is f.b, back_is (high_fits f.a f.b s)) at c.if-b-a.true))
 
 -- where the arms meet, the sum fits
-meets : (c : tie.Joined1) → mag (c.before.args.a +ℤ c.before.args.b) < 2 ^ 63
+meets : (c : tie.Joined-b-lt0) → mag (c.args.a +ℤ c.args.b) < 2 ^ 63
 meets c =
-    let f = c.before.ranges in
+    let f = c.ranges in
     ⊎_elim
     (λ w.
-    let s = simp (back_is f.b) at w.0.taken in
-    within_low f.a f.b s (simp (back_is f.a, back_is f.b, back_is (low_fits f.a f.b s)) at w.1.left))
+    let s = simp (back_is f.b) at w.if-b-lt0.true in
+    within_low f.a f.b s (simp (back_is f.a, back_is f.b, back_is (low_fits f.a f.b s)) at w.if-a-b.false))
     (λ w.
-    let s = simp (back_is f.b) at w.0.left in
-    within-high f.a f.b s (simp (back_is f.a, back_is f.b, back_is (high_fits f.a f.b s)) at w.1.left))
-    c.if1.branch
+    let s = simp (back_is f.b) at w.if-b-lt0.false in
+    within-high f.a f.b s (simp (back_is f.a, back_is f.b, back_is (high_fits f.a f.b s)) at w.if-b-a.false))
+    c.if-b-lt0.branch-raw
 
-add-t8 : tie.Need-overflow-add-t8
-add-t8 c = let f = c.before.ranges in simp (back_is f.a, back_is f.b) (record { sfits = meets c })
+add-t8 : tie.Need-overflow_add-result
+add-t8 c = let f = c.ranges in simp (back_is f.a, back_is f.b) (record { sfits = meets c })
 
-returns-3 : tie.Need-returns-3
+returns-3 : tie.Need-returns
 returns-3 c =
-    let f = c.before.ranges in
-    let g : SFits w64 (c.before.args.a +ℤ c.before.args.b) = record { sfits = meets c } in
+    let f = c.ranges in
+    let g : SFits w64 (c.args.a +ℤ c.args.b) = record { sfits = meets c } in
     simp (back_is f.a, back_is f.b, back_is g) (sym (fitting f.a f.b (meets c)))
 
 pub add_spec : {M : Type 1} → statement M

@@ -36,16 +36,16 @@ module _ {a d : ℤ} (p : (a ≡ neg_ℤ (pos (nat_abs a))) × (d ≡ pos (nat_a
       go true t = t ∙ sym (le-leb next (2 ^ 63) (omega (arith, leb-true (nat_abs d) 8 t)))
       go false t = t ∙ sym (lt-leb next (2 ^ 63) (omega (arith, leb-false (nat_abs d) 8 t)))
 
-returns-3 : tie.Need-returns-3
+returns-3 : tie.Need-returns
 returns-3 c =
     let s = c.before.before in
     let a = back_is s.ranges.acc in
-    simp (back_is s.ranges.d) (at s.requires (equal s.requires (simp a at c.before.if1.false) (simp a at c.if2.false)))
+    simp (back_is s.ranges.d) (at s.requires (equal s.requires (simp a at c.if-acc-gt-LEAST_TENTH.false) (simp a at c.if-acc-lt-LEAST_TENTH.false)))
 
-pub has-room-spec : {M : Type 1} → statement M
-has-room-spec =
+pub has_room_spec : {M : Type 1} → statement M
+has_room_spec =
     tie.close
     (tie.spec
-    (λ c. above c.before.requires (simp (back_is c.before.ranges.acc) at c.if1.true))
-    (λ c. below c.before.before.requires (simp (back_is c.before.before.ranges.acc) at c.if2.true))
+    (λ c. above c.requires (simp (back_is c.ranges.acc) at c.if-acc-gt-LEAST_TENTH.true))
+    (λ c. below c.requires (simp (back_is c.ranges.acc) at c.if-acc-lt-LEAST_TENTH.true))
     returns-3)

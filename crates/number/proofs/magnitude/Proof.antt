@@ -19,15 +19,15 @@ less-of n =
     parts-eq (pos 0 -ℤ y) (pos n) (omega (arith, up-add (pos 0) (neg_ℤ y), up_neg y, dn-neg y, up-add (negsuc n) (pos 1)))
 
 -- z is below 0
-module _ (c : tie.Then1) where
+module _ (c : tie.Then-z-lt0) where
   abbrev z : ℤ
-  z = c.before.args.z
+  z = c.args.z
 
   abbrev f : SFits w64 z
-  f = c.before.ranges.z
+  f = c.ranges.z
 
   below : lt_z z (pos 0) ≡ true
-  below = simp (back_is f) at c.if1.true
+  below = simp (back_is f) at c.if-z-lt0.true
 
   one_more : SFits w64 (z +ℤ pos 1)
   one_more = record { sfits = mag-add z (pos 1) (2 ^ 63) (omega (arith, lt-true z (pos 0) below)) (omega (arith, dn-le f)) }
@@ -42,14 +42,14 @@ module _ (c : tie.Then1) where
   less : back (pos 0 -ℤ back (back z +ℤ pos 1)) ≡ pos (mag z)
   less = simp (back_is f, back_is one_more, less-is) (back_is less-fits)
 
-cast-result-2 : tie.Need-overflow-cast-result-2
+cast-result-2 : tie.Need-overflow_cast-result-2
 cast-result-2 c =
-    let f = c.before.ranges.z in
-    let e = not-below-zero c.before.args.z (simp (back_is f) at c.if1.false) in
+    let f = c.ranges.z in
+    let e = not-below-zero c.args.z (simp (back_is f) at c.if-z-lt0.false) in
     rw (back_is f, e) (tt, record { fits = omega (arith, f.sfits, ap mag e) })
 
-pub magnitude-spec : {M : Type 1} → statement M
-magnitude-spec =
+pub magnitude_spec : {M : Type 1} → statement M
+magnitude_spec =
     tie.close
     (tie.spec
     (λ c. simp (back_is (f c)) (one_more c))

@@ -40,19 +40,19 @@ module _ {power below next : ℕ} (r : Rising power below next) where
       let same : r.i ≡ k = omega (arith, r.least k e, exponent-le (suc k) (suc r.i) (omega (arith, r.above, e, h))) in
       r.is ∙ ap (λ (m : ℕ). 10 ^ m) same
 
-abbrev invariant-loop : tie.invariant-loop
+abbrev invariant-loop : tie.invariant-loop-next
 invariant-loop power below₀ next₀ below next = Rising power below next
 
-abbrev decreases-loop : tie.decreases-loop
+abbrev decreases-loop : tie.decreases-loop-next
 decreases-loop power below₀ next₀ below next = power - next
 
-pub power-below-spec : {M : Type 1} → statement M
-power-below-spec =
+pub power_below_spec : {M : Type 1} → statement M
+power_below_spec =
     tie.close
     (tie.spec
     invariant-loop decreases-loop
     (λ c. record { top = c.requires; i = 0; is = refl; above = refl; least = λ k e. omega arith })
-    (λ c. record { fits = next_fits c.before.loop.invariant c.loop-test.true })
-    (λ c. let l = c.before.loop in rising l.invariant c.loop-test.true)
-    (λ c. up c.before.loop.invariant c.loop-test.true)
-    (λ c. found c.before.loop.invariant c.loop-test.false))
+    (λ c. record { fits = next_fits c.loop-next.invariant c.loop-next-test.true })
+    (λ c. let l = c.loop-next in rising l.invariant c.loop-next-test.true)
+    (λ c. up c.loop-next.invariant c.loop-next-test.true)
+    (λ c. found c.loop-next.invariant c.loop-next-test.false))

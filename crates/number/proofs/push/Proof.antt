@@ -101,37 +101,37 @@ module _ {a : ℤ} {k : ℕ} {a' d' : ℤ} (h : Held a k a' d') where
   next-is : leb (10 * nat_abs a' + nat_abs d') (2 ^ 63) ≡ leb (next h.digit) (2 ^ 63)
   next-is = rw (h.number_is, h.digit-is)
 
-held : (c : tie.Else2)
-    → Held c.before.before.args.acc c.before.before.args.c (back c.before.before.args.acc) (back (to_z w64 c.before.before.args.c -ℤ pos 48))
+held : (c : tie.Else-d-gt9)
+    → Held c.args.acc c.args.c (back c.args.acc) (back (to_z w64 c.args.c -ℤ pos 48))
 held c =
     let s = c.before.before in
     let byte : s.args.c < 256 = s.ranges.c.fits in
-    let low = least s.args.c byte c.before.if1.false in
+    let low = least s.args.c byte c.if-d-lt0.false in
     record {
-      digit = record { neg = s.requires; low = low; high = omega (arith, most s.args.c byte _ low c.if2.false) };
+      digit = record { neg = s.requires; low = low; high = omega (arith, most s.args.c byte _ low c.if-d-gt9.false) };
       number_is = back_is s.ranges.acc;
       digit-is = digit-is s.args.c byte low;
     }
 
-returns-2 : tie.Need-returns-2
+returns-2 : tie.Need-returns-then-d-gt9
 returns-2 c =
     let s = c.before.before in
     let byte : s.args.c < 256 = s.ranges.c.fits in
-    let low = least s.args.c byte c.before.if1.false in
-    sym (ap negative_from (digit-high _ _ [] low (omega (arith, high s.args.c byte _ low c.if2.true))))
+    let low = least s.args.c byte c.if-d-lt0.false in
+    sym (ap negative_from (digit-high _ _ [] low (omega (arith, high s.args.c byte _ low c.if-d-gt9.true))))
 
-returns-3 : tie.Need-returns-3
+returns-3 : tie.Need-returns-then-not-has_room
 returns-3 c =
     let h = held c.before.before in
-    full h.digit (sym (next-is h) ∙ sym c.before.has_room.ensures ∙ not-true _ c.if3.true)
+    full h.digit (sym (next-is h) ∙ sym c.has_room.ensures ∙ c.if-not-has_room.true)
 
 -- past the tests
-module _ (c : tie.Else3) where
-  abbrev h : Held c.before.before.before.before.args.acc c.before.before.before.before.args.c (back c.before.before.before.before.args.acc) (back (to_z w64 c.before.before.before.before.args.c -ℤ pos 48))
+module _ (c : tie.Else-not-has_room) where
+  abbrev h : Held c.args.acc c.args.c (back c.args.acc) (back (to_z w64 c.args.c -ℤ pos 48))
   h = held c.before.before
 
   room : leb (next h.digit) (2 ^ 63) ≡ true
-  room = sym (next-is h) ∙ sym c.before.has_room.ensures ∙ not-false _ c.if3.false
+  room = sym (next-is h) ∙ sym c.has_room.ensures ∙ c.if-not-has_room.false
 
 pub push_spec : {M : Type 1} → statement M
 push_spec =
@@ -139,7 +139,7 @@ push_spec =
     (tie.spec
     (λ c. search rules)
     (λ c. less-fits c.args.c c.ranges.c.fits)
-    (λ c. sym (ap negative_from (digit_low _ _ [] (low c.before.args.c c.before.ranges.c.fits c.if1.true))))
+    (λ c. sym (ap negative_from (digit_low _ _ [] (low c.args.c c.ranges.c.fits c.if-d-lt0.true))))
     returns-2
     (λ c κs. required (held c))
     returns-3

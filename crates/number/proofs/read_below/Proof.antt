@@ -41,44 +41,44 @@ module _ (limit : ℕ) (h : limit ≤ signed_limit) (s : List ℕ) where
     outside n t m l = sym (from (some z) e ∙ ap (λ (y : ℤ). answer (some y)) (not-below-zero z t) ∙ rw (← m, le-ltb n limit l))
 
 -- the number that the text says, and its sign
-fits : (c : tie.After-known-told) → SFits w64 c.before.z.given.0.0
-fits c = record { sfits = c.known-told.given.0.1 }
+fits : (c : tie.In-Value) → SFits w64 c.in-Value.z
+fits c = record { sfits = c.in-Value.known_told-1-own.given.0.1 }
 
-said : (c : tie.After-z) → read_signed c.before.before.before.before.args.s.now ≡ some c.z.given.0.0
-said c = signed-value _ _ (sym c.z.given.1 ∙ c.before.before.read-signed.ensures)
+said : (c : tie.In-Value) → read_signed c.args.s.now ≡ some c.in-Value.z
+said c = signed-value _ _ (sym c.in-Value.is ∙ c.read_signed.ensures)
 
-above : (c : tie.Else1) → lt_z c.before.before.z.given.0.0 (pos 0) ≡ false
-above c = simp (back_is (fits c.before)) at c.if1.false
+above : (c : tie.Else-z-lt0) → lt_z c.in-Value.z (pos 0) ≡ false
+above c = simp (back_is (fits c.before)) at c.if-z-lt0.false
 
-enum_told : tie.Need-enum-told
+enum_told : tie.Need-enum_told-1
 enum_told c = search rules
 
-returns : tie.Need-returns
+returns : tie.Need-returns-in_default
 returns c =
-    let r = c.before.before in
-    let a = r.before.before.args in
-    sym (from a.limit r.before.before.requires a.s.now none (signed-bad _ (sym c.enum_told.given.1 ∙ r.read-signed.ensures)))
+    let r = c.before in
+    let a = r.args in
+    sym (from a.limit r.requires a.s.now none (signed-bad _ (sym c.in_default.is ∙ r.read_signed.ensures)))
 
-returns-2 : tie.Need-returns-2
+returns-2 : tie.Need-returns-then-z-lt0
 returns-2 c =
-    let z = c.before.before in
-    let start = z.before.before.before.before in
-    below start.args.limit start.requires start.args.s.now _ (said z) (simp (back_is (fits c.before)) at c.if1.true)
+    let z = c.before in
+    let start = z.before.before.before in
+    below start.args.limit start.requires start.args.s.now _ (said z) (simp (back_is (fits c.before)) at c.if-z-lt0.true)
 
-returns-3 : tie.Need-returns-3
+returns-3 : tie.Need-returns-then-n-limit
 returns-3 c =
     let e = c.before.before in
-    let start = e.before.before.before.before.before.before in
-    inside start.args.limit start.requires start.args.s.now _ (said e.before.before) _ (above e) (c.before.magnitude.ensures ∙ ap nat_abs (back_is (fits e.before))) c.if2.true
+    let start = e.before.before.before.before in
+    inside start.args.limit start.requires start.args.s.now _ (said e.before) _ (above e) (c.magnitude-n.ensures ∙ ap nat_abs (back_is (fits e.before))) c.if-n-limit.true
 
-returns-4 : tie.Need-returns-4
+returns-4 : tie.Need-returns-else-n-limit
 returns-4 c =
     let e = c.before.before in
-    let start = e.before.before.before.before.before.before in
-    outside start.args.limit start.requires start.args.s.now _ (said e.before.before) _ (above e) (c.before.magnitude.ensures ∙ ap nat_abs (back_is (fits e.before))) c.if2.false
+    let start = e.before.before.before.before in
+    outside start.args.limit start.requires start.args.s.now _ (said e.before) _ (above e) (c.magnitude-n.ensures ∙ ap nat_abs (back_is (fits e.before))) c.if-n-limit.false
 
-pub read-below-spec : {M : Type 1} → statement M
-read-below-spec =
+pub read_below_spec : {M : Type 1} → statement M
+read_below_spec =
     tie.close
     (tie.spec
     (λ c κs. search rules) (λ c. search rules) enum_told returns returns-2 (λ c κs. search rules) returns-3 returns-4)

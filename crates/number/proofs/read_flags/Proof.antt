@@ -5,12 +5,12 @@ use Rattle.model.specs.Number.{read_flags}
 use Rattle.number.proofs.read_flags.Statement.{statement}
 use Rattle.number.proofs.read_flags.Tie as tie
 
-read-below-requires : tie.Need-read-below-requires
+read-below-requires : tie.Need-read_below-requires
 read-below-requires c κs = search rules
 
 returns : tie.Need-returns
 unfolding read_flags
 returns c = c.read_below.ensures
 
-pub read-flags-spec : {M : Type 1} → statement M
-read-flags-spec = tie.close (tie.spec read-below-requires returns)
+pub read_flags_spec : {M : Type 1} → statement M
+read_flags_spec = tie.close (tie.spec read-below-requires returns)

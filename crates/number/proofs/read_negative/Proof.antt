@@ -30,10 +30,10 @@ record Reading (s : List ℕ) (acc i : ℕ) : Type 0 where
   within : i ≤ length s
   whole : negative_from (read_magnitude s) ≡ negative_from (read_digits m (drop i s))
 
-abbrev invariant-loop : tie.invariant-loop
+abbrev invariant-loop : tie.invariant-loop-i
 invariant-loop s acc₀ i₀ acc i = Reading s acc i
 
-abbrev decreases-loop : tie.decreases-loop
+abbrev decreases-loop : tie.decreases-loop-i
 decreases-loop s acc₀ i₀ acc i = length s - i
 
 module _ {s : List ℕ} {acc i : ℕ} (r : Reading s acc i) where
@@ -71,43 +71,43 @@ module _ {s : List ℕ} {acc i : ℕ} (r : Reading s acc i) where
   at-end : length s ≤ i → Value (to_z w64 acc) ≡ negative_from (read_magnitude s)
   at-end h = ap Value number_is ∙ sym (r.whole ∙ rw (drop_of_length-le s h) (negative-in r.m r.small))
 
-loop-holds : tie.Need-loop-init invariant-loop decreases-loop
+loop-holds : tie.Need-loop-i-init invariant-loop decreases-loop
 loop-holds c =
     record {
       m = 0;
       is = refl;
       small = omega arith;
       within = omega arith;
-      whole = ap negative_from (magnitude-digits c.before.before.before.args.s.now (omega arith) (omega (arith, c.if2.false)));
+      whole = ap negative_from (magnitude-digits c.args.s.now (omega arith) (omega (arith, c.if-s-gt20.false)));
     }
 
 push-requires : tie.Need-push-requires invariant-loop decreases-loop
 push-requires c κs =
-    let r = c.before.before.loop.invariant in
+    let r = c.loop-i.invariant in
     number_is r ∙ ap (λ (n : ℕ). neg_ℤ (pos n)) (sym (abs_is r))
 
-enum_told : tie.Need-enum-told invariant-loop decreases-loop
+enum_told : tie.Need-enum_told-1 invariant-loop decreases-loop
 enum_told c = search rules
 
-returns-3 : tie.Need-returns-3 invariant-loop decreases-loop
+returns-3 : tie.Need-returns-in_default invariant-loop decreases-loop
 returns-3 c =
-    let p = c.before.before in
+    let p = c.before in
     let t = p.before.before in
-    step_left t.before.loop.invariant t.loop-test.true p.push.result p.push.ensures c.enum_told.given.1
+    step_left t.loop-i.invariant t.loop-i-test.true p.push.result p.push.ensures c.in_default.is
 
-loop-again : tie.Need-loop-preserved invariant-loop decreases-loop
+loop-again : tie.Need-loop-i-preserved invariant-loop decreases-loop
 loop-again c =
-    let v = c.before in
-    let p = v.before.before in
+    let v = c in
+    let p = v.before in
     let t = p.before.before in
-    step-taken t.before.loop.invariant t.loop-test.true p.push.result p.push.ensures v.v.given.0.0 v.v.given.1
+    step-taken t.loop-i.invariant t.loop-i-test.true p.push.result p.push.ensures v.in-Value.v v.in-Value.is
 
-pub read-negative-spec : {M : Type 1} → statement M
-read-negative-spec =
+pub read_negative_spec : {M : Type 1} → statement M
+read_negative_spec =
     tie.close
     (tie.spec
     invariant-loop decreases-loop
-    (λ c. sym (ap negative_from (magnitude-none c.before.before.args.s.now c.if1.true)))
-    (λ c. sym (ap negative_from (magnitude-long c.before.before.before.args.s.now (omega (arith, c.if2.true)))))
+    (λ c. sym (ap negative_from (magnitude-none c.args.s.now c.if-s-eq0.true)))
+    (λ c. sym (ap negative_from (magnitude-long c.args.s.now (omega (arith, c.if-s-gt20.true)))))
     loop-holds (λ c. search rules) push-requires (λ c. search rules) enum_told returns-3 (λ c. search rules) (λ c. search rules) loop-again
-    (λ c. at-end c.before.loop.invariant c.loop-test.false))
+    (λ c. at-end c.loop-i.invariant c.loop-i-test.false))

@@ -37,75 +37,75 @@ negated-of : {o : Option ℕ} {v : ℤ} (r : Negative o v) → pos 0 -ℤ v ≡ 
 negated-of r = ap (λ (z : ℤ). pos 0 -ℤ z) r.value ∙ negated r.n
 
 -- past the first test
-abbrev begun : tie.After-sign-length → tie.Else1
+abbrev begun : tie.After-sign_length-from → tie.Else-s-eq0
 begun c = c.before.before
 
-abbrev text : tie.After-sign-length → List ℕ
-text c = (begun c).before.before.args.s.now
+abbrev text : tie.After-sign_length-from → List ℕ
+text c = (begun c).args.s.now
 
 -- the sign is within the text
-from : (c : tie.After-sign-length) → c.sign-length.result ≤ length (text c)
-from c = omega (arith, c.sign-length.ensures, sign-least (text c) (begun c).if1.false)
+from : (c : tie.After-sign_length-from) → c.sign_length-from.result ≤ length (text c)
+from c = omega (arith, c.sign_length-from.ensures, sign-least (text c) (begun c).if-s-eq0.false)
 
 -- minus the number after the sign
-read : (c : tie.After-read-negative) → c.read-negative.result ≡ negative_from (read_magnitude (unsigned (text c.before.before)))
+read : (c : tie.After-read_negative) → c.read_negative.result ≡ negative_from (read_magnitude (unsigned (text c.before.before)))
 read c =
     let l = c.before.before in
-    c.read-negative.ensures
-    ∙ ap (λ (u : List ℕ). negative_from (read_magnitude u)) (rest-is l.sign-length.result (text l) ∙ ap (λ (k : ℕ). drop k (text l)) l.sign-length.ensures)
+    c.read_negative.ensures
+    ∙ ap (λ (u : List ℕ). negative_from (read_magnitude u)) (rest-is l.sign_length-from.result (text l) ∙ ap (λ (k : ℕ). drop k (text l)) l.sign_length-from.ensures)
 
-whole : (c : tie.After-v) → Negative (read_magnitude (unsigned (text c.before.before.before.before))) c.v.given.0.0
-whole c = negative _ _ (sym c.v.given.1 ∙ read c.before.before)
+whole : (c : tie.In-Value) → Negative (read_magnitude (unsigned (text c.before.before.before))) c.in-Value.v
+whole c = negative _ _ (sym c.in-Value.is ∙ read c.before)
 
-fits : (c : tie.After-known-told) → SFits w64 c.before.v.given.0.0
-fits c = record { sfits = c.known-told.given.0.1 }
+fits : (c : tie.In-Value) → SFits w64 c.in-Value.v
+fits c = record { sfits = c.in-Value.known_told-1-own.given.0.1 }
 
-under : (c : tie.Else3) → (whole c.before.before.before).n < 2 ^ 63
+under : (c : tie.Else-v) → (whole c.before.before).n < 2 ^ 63
 under c =
-    let r = whole c.before.before.before in
-    bits-other r.n r.small (λ e. c.if3.false (ap (of_z w64) r.value ∙ e))
+    let r = whole c.before.before in
+    bits-other r.n r.small (λ e. c.if-v.false (ap (of_z w64) r.value ∙ e))
 
-enum_told : tie.Need-enum-told
+enum_told : tie.Need-enum_told-1
 enum_told c = search rules
 
-returns-2 : tie.Need-returns-2
+returns-2 : tie.Need-returns-in_default
 returns-2 c =
-    let n = c.before.before in
+    let n = c.before in
     let l = n.before.before in
-    text-bad (text l) (begun l).if1.false (sym c.enum_told.given.1 ∙ read n)
+    text-bad (text l) (begun l).if-s-eq0.false (sym c.in_default.is ∙ read n)
 
-returns-3 : tie.Need-returns-3
+returns-3 : tie.Need-returns-then-first-eq45
 returns-3 c =
-    let v = c.before.before in
-    let n = v.before.before in
+    let v = c.before in
+    let n = v.before in
     let l = n.before.before in
-    simp (back_is (fits c.before)) (sym v.v.given.1 ∙ read n ∙ sym (text-minus (text l) (begun l).if1.false c.if2.true))
+    simp (back_is (fits c.before)) (sym v.in-Value.is ∙ read n ∙ sym (text-minus (text l) (begun l).if-s-eq0.false c.if-first-eq45.true))
 
 -- without a minus
-other : (c : tie.Else2)
-    → signed_from (read_signed (text c.before.before.before.before.before.before))
-    ≡ plain_from (read_magnitude (unsigned (text c.before.before.before.before.before.before)))
+other : (c : tie.Else-first-eq45)
+    → signed_from (read_signed (text c.before.before.before.before))
+    ≡ plain_from (read_magnitude (unsigned (text c.before.before.before.before)))
 other c =
-    let l = c.before.before.before.before.before.before in
-    text-other (text l) (begun l).if1.false c.if2.false
+    let l = c.before.before.before.before in
+    text-other (text l) (begun l).if-s-eq0.false c.if-first-eq45.false
 
-returns-4 : tie.Need-returns-4
+returns-4 : tie.Need-returns-then-v
 returns-4 c =
-    let r = whole c.before.before.before in
-    sym (other c.before ∙ plain_out r (bits-least _ r.small (ap (of_z w64) (sym r.value) ∙ c.if3.true)))
+    let r = whole c.before.before in
+    sym (other c.before ∙ plain_out r (bits-least _ r.small (ap (of_z w64) (sym r.value) ∙ c.if-v.true)))
 
-returns-5 : tie.Need-returns-5
+returns-5 : tie.Need-returns
 returns-5 c =
-    let r = whole c.before.before.before in
+    let r = whole c.before.before in
     let f : SFits w64 (pos r.n) = record { sfits = under c } in
     simp (back_is (fits c.before.before), negated-of r, back_is f) (sym (other c.before ∙ plain_in r (under c)))
 
-pub read-signed-spec : {M : Type 1} → statement M
-read-signed-spec =
+pub read_signed_spec : {M : Type 1} → statement M
+read_signed_spec =
     tie.close
     (tie.spec
-    (λ c. text-none c.before.before.args.s.now c.if1.true)
+    (λ c. text-none c.args.s.now c.if-s-eq0.true)
     (λ c. search rules) (λ c κs. search rules) from (λ c. omega (arith, from c)) (λ c. omega (arith, from c))
     (λ c κs. search rules) (λ c. search rules) enum_told returns-2 returns-3 returns-4
-    (λ c. simp (back_is (fits c.before.before), negated-of (whole c.before.before.before)) (record { sfits = under c }))
+    (λ c. simp (back_is (fits c.before.before), negated-of (whole c.before.before)) (record { sfits = under c }))
     returns-5)

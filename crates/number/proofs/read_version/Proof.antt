@@ -5,12 +5,12 @@ use Rattle.model.specs.Number.{read_version}
 use Rattle.number.proofs.read_version.Statement.{statement}
 use Rattle.number.proofs.read_version.Tie as tie
 
-read-below-requires : tie.Need-read-below-requires
+read-below-requires : tie.Need-read_below-requires
 read-below-requires c κs = search rules
 
 returns : tie.Need-returns
 unfolding read_version
 returns c = c.read_below.ensures
 
-pub read-version-spec : {M : Type 1} → statement M
-read-version-spec = tie.close (tie.spec read-below-requires returns)
+pub read_version_spec : {M : Type 1} → statement M
+read_version_spec = tie.close (tie.spec read-below-requires returns)

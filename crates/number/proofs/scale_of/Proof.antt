@@ -36,31 +36,31 @@ module _ {n digits power : ℕ} (c : Counting n digits power) where
   more f h =
       let e : digits + 1 - 1 ≡ digits = omega arith in
       record {
-        fits = c.ranges;
+        fits = c.fits;
         some = omega arith;
         few = omega (arith, f);
         is = rw e next-is;
-        counted = omega (arith, text-longer digits (text_of n c.ranges) (rw (← next-is) h));
+        counted = omega (arith, text-longer digits (text_of n c.fits) (rw (← next-is) h));
       }
 
   most : 20 ≤ digits → digits ≡ length (nat_text n)
-  most h = omega (arith, c.few, c.counted, length-nat_text 19 n (omega (arith, c.ranges)))
+  most h = omega (arith, c.few, c.counted, length-nat_text 19 n (omega (arith, c.fits)))
 
-abbrev invariant-loop : tie.invariant-loop
+abbrev invariant-loop : tie.invariant-loop-digits
 invariant-loop n digits₀ power₀ digits power = Counting n digits power
 
-abbrev decreases-loop : tie.decreases-loop
+abbrev decreases-loop : tie.decreases-loop-digits
 decreases-loop n digits₀ power₀ digits power = 20 - digits
 
-pub scale-of-spec : {M : Type 1} → statement M
-scale-of-spec =
+pub scale_of_spec : {M : Type 1} → statement M
+scale_of_spec =
     tie.close
     (tie.spec
     invariant-loop decreases-loop
     (λ c. record { fits = c.ranges.n.fits; some = omega arith; few = omega arith; is = refl; counted = text-some (text_of _ c.ranges.n.fits) })
-    (λ c. record { fits = next_fits c.before.loop.invariant c.loop-test.true })
-    (λ c. let l = c.before.before.loop in (all l.invariant c.if1.true, l.invariant.is))
+    (λ c. record { fits = next_fits c.loop-digits.invariant c.loop-digits-test.true })
+    (λ c. let l = c.loop-digits in (all l.invariant c.if-n-next.true, l.invariant.is))
     (λ c. search rules)
     (λ c. search rules)
-    (λ c. more c.before.before.loop.invariant c.before.loop-test.true c.if1.false)
-    (λ c. let l = c.before.loop in (most l.invariant c.loop-test.false, l.invariant.is)))
+    (λ c. more c.loop-digits.invariant c.loop-digits-test.true c.if-n-next.false)
+    (λ c. let l = c.loop-digits in (most l.invariant c.loop-digits-test.false, l.invariant.is)))

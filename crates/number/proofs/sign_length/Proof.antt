@@ -16,10 +16,10 @@ plus c e = simp e
 neither : (c : ℕ) → (c ≡ 45 → ⊥) → (c ≡ 43 → ⊥) → 0 ≡ sign_length c
 neither c e f = simp (ne_eqb c 45 e, ne_eqb c 43 f)
 
-pub sign-length-spec : {M : Type 1} → statement M
-sign-length-spec =
+pub sign_length_spec : {M : Type 1} → statement M
+sign_length_spec =
     tie.close
     (tie.spec
-    (λ c. minus c.before.args.first c.if1.true)
-    (λ c. plus c.before.before.args.first c.if2.true)
-    (λ c. neither c.before.before.args.first c.before.if1.false c.if2.false))
+    (λ c. minus c.args.first c.if-first-eq45.true)
+    (λ c. plus c.args.first c.if-first-eq43.true)
+    (λ c. neither c.args.first c.if-first-eq45.false c.if-first-eq43.false))

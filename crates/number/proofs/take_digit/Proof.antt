@@ -33,26 +33,26 @@ module _ {n power byte rest : ℕ} (t : Taking n power byte rest) where
     below : rest ≡ n % power
     below = sym (mod-eq_of_lt h) ∙ t.left
 
-abbrev invariant-loop : tie.invariant-loop
+abbrev invariant-loop : tie.invariant-loop-rest
 invariant-loop n power byte₀ rest₀ byte rest = Taking n power byte rest
 
-abbrev decreases-loop : tie.decreases-loop
+abbrev decreases-loop : tie.decreases-loop-rest
 decreases-loop n power byte₀ rest₀ byte rest = rest
 
 -- the power can be taken away once more, or not
-more : (c : tie.In-loop invariant-loop decreases-loop) → c.before.before.args.power ≤ c.before.loop.rest
-more c = omega (arith, c.loop-test.true)
+more : (c : tie.In-loop-rest invariant-loop decreases-loop) → c.args.power ≤ c.loop-rest.rest
+more c = omega (arith, c.loop-rest-test.true)
 
-no_more : (c : tie.After-loop invariant-loop decreases-loop) → c.before.loop.rest < c.before.before.args.power
-no_more c = omega (arith, c.loop-test.false)
+no_more : (c : tie.After-loop-rest invariant-loop decreases-loop) → c.loop-rest.rest < c.args.power
+no_more c = omega (arith, c.loop-rest-test.false)
 
-pub take-digit-spec : {M : Type 1} → statement M
-take-digit-spec =
+pub take_digit_spec : {M : Type 1} → statement M
+take_digit_spec =
     tie.close
     (tie.spec
     invariant-loop decreases-loop
     (λ c. record { digit = c.requires; taken = refl; left = refl })
-    (λ c. let t = c.before.loop.invariant in record { fits = omega (arith, t.taken, few t, once t (more c)) })
-    (λ c. omega (arith, some c.before.loop.invariant, more c))
-    (λ c. next c.before.loop.invariant (more c))
-    (λ c. let t = c.before.loop.invariant in (last t (no_more c), below t (no_more c))))
+    (λ c. let t = c.loop-rest.invariant in record { fits = omega (arith, t.taken, few t, once t (more c)) })
+    (λ c. omega (arith, some c.loop-rest.invariant, more c))
+    (λ c. next c.loop-rest.invariant (more c))
+    (λ c. let t = c.loop-rest.invariant in (last t (no_more c), below t (no_more c))))

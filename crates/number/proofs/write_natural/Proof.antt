@@ -102,58 +102,58 @@ module _ {before : List ℕ} {at n : ℕ} {buf : List ℕ} {power place rest : �
           bytes = sym (w.whole ∙ rw (end, div-one rest) (written-set place (48 + rest) buf place-lt));
         }
 
-abbrev invariant-loop : tie.invariant-loop
+abbrev invariant-loop : tie.invariant-loop-power
 invariant-loop buf₀ at n power₀ place₀ rest₀ buf power place rest = Unwritten buf₀ at n buf power place rest
 
-abbrev decreases-loop : tie.decreases-loop
+abbrev decreases-loop : tie.decreases-loop-power
 decreases-loop buf₀ at n power₀ place₀ rest₀ buf power place rest = power
 
-loop-holds : tie.Need-loop-init invariant-loop decreases-loop
+loop-holds : tie.Need-loop-power-init invariant-loop decreases-loop
 loop-holds c =
     let s = c.before.before in
-    rw (c.scale_of.ensures.1, c.scale_of.ensures.0) (begun s.args.buf.now s.args.at s.args.n s.ranges.n.fits s.requires)
+    rw (c.scale_of-power.ensures.1, c.scale_of-power.ensures.0) (begun s.args.buf.now s.args.at s.args.n s.ranges.n.fits s.requires)
 
 -- a power is left, or none
-more : (c : tie.In-loop invariant-loop decreases-loop) → 1 < c.before.loop.power
-more c = omega (arith, c.loop-test.true)
+more : (c : tie.In-loop-power invariant-loop decreases-loop) → 1 < c.loop-power.power
+more c = omega (arith, c.loop-power-test.true)
 
-none : (c : tie.After-loop invariant-loop decreases-loop) → c.before.loop.power ≤ 1
-none c = omega (arith, c.loop-test.false)
+none : (c : tie.After-loop-power invariant-loop decreases-loop) → c.loop-power.power ≤ 1
+none c = omega (arith, c.loop-power-test.false)
 
-loop-less : tie.Need-loop-smaller invariant-loop decreases-loop
+loop-less : tie.Need-loop-power-smaller invariant-loop decreases-loop
 loop-less c =
     let l = c.before.before in
-    let w = l.before.loop.invariant in
+    let w = l.loop-power.invariant in
     let h = more l in
-    rw (c.power_below.ensures (m w h) (is-next w h)) (lower w h)
+    rw (c.power_below-power.ensures (m w h) (is-next w h)) (lower w h)
 
-loop-again : tie.Need-loop-preserved invariant-loop decreases-loop
+loop-again : tie.Need-loop-power-preserved invariant-loop decreases-loop
 loop-again c =
     let d = c.before in
     let l = d.before in
-    let w = l.before.loop.invariant in
+    let w = l.loop-power.invariant in
     let h = more l in
-    rw (c.power_below.ensures (m w h) (is-next w h), d.take-digit.ensures.0, d.take-digit.ensures.1) (next w h)
+    rw (c.power_below-power.ensures (m w h) (is-next w h), d.take_digit-digit.ensures.0, d.take_digit-digit.ensures.1) (next w h)
 
-last-digit : (c : tie.After-loop invariant-loop decreases-loop) → c.before.loop.rest < 10
-last-digit c = small c.before.loop.invariant (none c)
+last-digit : (c : tie.After-loop-power invariant-loop decreases-loop) → c.loop-power.rest < 10
+last-digit c = small c.loop-power.invariant (none c)
 
-pub write-natural-spec : {M : Type 1} → statement M
-write-natural-spec =
+pub write_natural_spec : {M : Type 1} → statement M
+write_natural_spec =
     tie.close
     (tie.spec
     invariant-loop decreases-loop
     (λ c κs. search rules)
     loop-holds
-    (λ c κs. digit c.before.loop.invariant)
-    (λ c. let w = c.before.before.loop.invariant in omega (arith, place-lt w, w.from))
+    (λ c κs. digit c.loop-power.invariant)
+    (λ c. let w = c.loop-power.invariant in omega (arith, place-lt w, w.from))
     (λ c. search rules)
-    (λ c κs. power_le c.before.before.loop.invariant)
+    (λ c κs. power_le c.loop-power.invariant)
     loop-less
     loop-again
     (λ c. search (rules, last-digit c))
     (λ c. search (rules, last-digit c))
-    (λ c. let w = c.before.loop.invariant in omega (arith, place-lt w, w.from))
-    (λ c. search (rules, place-lt c.before.loop.invariant))
-    (λ c. simp length-set c.before.loop.invariant.same)
-    (λ c. wrote-all c.before.loop.invariant (none c)))
+    (λ c. let w = c.loop-power.invariant in omega (arith, place-lt w, w.from))
+    (λ c. search (rules, place-lt c.loop-power.invariant))
+    (λ c. simp length-set c.loop-power.invariant.same)
+    (λ c. wrote-all c.loop-power.invariant (none c)))
