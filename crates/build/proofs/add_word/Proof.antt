@@ -10,62 +10,62 @@ use Rattle.build.proofs.Placing.{add-beyond, add-over, add-whole, add-long, fits
 use Rattle.build.proofs.add_word.Statement.{statement}
 use Rattle.build.proofs.add_word.Tie as tie
 
-returns : tie.Need-returns
-returns c = let s = c.before.before.before in add-beyond s.args.buffer.now s.args.word.now s.args.len c.if1.true
+returns : tie.Need-returns-then-buffer-len
+returns c = let s = c in add-beyond s.args.buffer.now s.args.word.now s.args.len c.if-buffer-len.true
 
-returns-2 : tie.Need-returns-2
+returns-2 : tie.Need-returns-then-len-gt512
 returns-2 c =
-    let s = c.before.before.before.before in
-    add-over s.args.buffer.now s.args.word.now s.args.len c.before.if1.false c.if2.true
+    let s = c in
+    add-over s.args.buffer.now s.args.word.now s.args.len c.if-buffer-len.false c.if-len-gt512.true
 
 -- the first `len` bytes
-front : (c : tie.Else2) → let a = c.before.before.before.before.args in length (take a.len a.buffer.now) ≡ a.len
-front c = let a = c.before.before.before.before.args in length-take-le a.len a.buffer.now c.before.if1.false
+front : (c : tie.Else-len-gt512) → let a = c.args in length (take a.len a.buffer.now) ≡ a.len
+front c = let a = c.args in length-take-le a.len a.buffer.now c.if-buffer-len.false
 
-returns-3 : tie.Need-returns-3
+returns-3 : tie.Need-returns-then-words_left-lt1
 returns-3 c =
-    let l = c.before in
-    let e = l.before.before.before in
-    let s = e.before.before.before in
-    add-whole s.args.buffer.now s.args.word.now s.args.len e.if1.false (omega (arith, l.words_left.ensures, c.if3.true))
+    let l = c in
+    let e = l in
+    let s = e in
+    add-whole s.args.buffer.now s.args.word.now s.args.len e.if-buffer-len.false (omega (arith, l.words_left.ensures, c.if-words_left-lt1.true))
 
 -- a word is lacking
-lacks : (c : tie.Else3) → let a = c.before.before.before.before.before.before.before.args in count (words_left (take a.len a.buffer.now)) ≡ 0 → ⊥
-lacks c e = omega (arith, c.if3.false, c.before.words_left.ensures)
+lacks : (c : tie.Else-words_left-lt1) → let a = c.args in count (words_left (take a.len a.buffer.now)) ≡ 0 → ⊥
+lacks c e = omega (arith, c.if-words_left-lt1.false, c.words_left.ensures)
 
-put-bulk-requires : tie.Need-put-bulk-requires
+put-bulk-requires : tie.Need-put_bulk-requires
 put-bulk-requires c κs =
-    let f = c.before.before in
-    let a = f.before.before.before.before.before.before.before.before.args in
-    fits-room a.buffer.now a.word.now a.len (sym f.word-fits.ensures ∙ c.before.if4.true)
+    let f = c in
+    let a = f.args in
+    fits-room a.buffer.now a.word.now a.len (sym f.word_fits.ensures ∙ c.if-word_fits.true)
 
-returns-4 : tie.Need-returns-4
+returns-4 : tie.Need-returns-then-word_fits
 returns-4 c =
-    let p = c.before.before in
-    let t = p.before.before in
-    let f = t.before in
-    let l = f.before in
-    let e = l.before.before.before.before in
-    let s = e.before.before.before in
-    add-wrote s.args.buffer.now s.args.word.now s.args.len e.if1.false (lacks l) (sym f.word-fits.ensures ∙ t.if4.true) p.put-bulk.ensures
+    let p = c in
+    let t = p in
+    let f = t in
+    let l = f.before.before.before.before.before.before in
+    let e = l in
+    let s = e in
+    add-wrote s.args.buffer.now s.args.word.now s.args.len e.if-buffer-len.false (lacks l) (sym f.word_fits.ensures ∙ t.if-word_fits.true) p.put_bulk.ensures
 
-returns-5 : tie.Need-returns-5
+returns-5 : tie.Need-returns
 returns-5 c =
-    let f = c.before in
-    let l = f.before in
-    let e = l.before.before.before.before in
-    let s = e.before.before.before in
-    add-long s.args.buffer.now s.args.word.now s.args.len e.if1.false (lacks l) (sym f.word-fits.ensures ∙ c.if4.false)
+    let f = c in
+    let l = f.before.before in
+    let e = l in
+    let s = e in
+    add-long s.args.buffer.now s.args.word.now s.args.len e.if-buffer-len.false (lacks l) (sym f.word_fits.ensures ∙ c.if-word_fits.false)
 
-pub add-word-spec : {M : Type 1} → statement M
-add-word-spec =
+pub add_word_spec : {M : Type 1} → statement M
+add_word_spec =
     tie.close
     (tie.spec
     returns
     returns-2
     (λ c. search rules)
-    (λ c. sym (front c.before))
-    (λ c κs. omega (arith, front c.before, c.before.if2.false))
+    (λ c. sym (front c))
+    (λ c κs. omega (arith, front c, c.if-len-gt512.false))
     (λ c. search rules)
     returns-3
     (λ c κs. search rules)

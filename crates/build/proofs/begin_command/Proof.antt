@@ -10,31 +10,31 @@ use Rattle.build.proofs.Placing.{begin-few, begin-many, begin-short, begin-wrote
 use Rattle.build.proofs.begin_command.Statement.{statement}
 use Rattle.build.proofs.begin_command.Tie as tie
 
-few : (c : tie.After-count-digits) → c.count-digits.result ≤ 2
-few c = omega (arith, c.count-digits.ensures, length-nat_text 1 c.before.before.before.before.args.words (omega (arith, c.before.if2.false)))
+few : (c : tie.After-count_digits) → c.count_digits.result ≤ 2
+few c = omega (arith, c.count_digits.ensures, length-nat_text 1 c.args.words (omega (arith, c.if-words-gt16.false)))
 
-returns-3 : tie.Need-returns-3
+returns-3 : tie.Need-returns-then-buffer-count_digits
 returns-3 c =
-    let d = c.before in
-    let s = d.before.before.before.before in
-    begin-short s.args.buffer.now s.args.words (omega (arith, c.if3.true, d.count-digits.ensures, line-length s.args.words))
+    let d = c in
+    let s = d in
+    begin-short s.args.buffer.now s.args.words (omega (arith, c.if-buffer-count_digits.true, d.count_digits.ensures, line-length s.args.words))
 
-room : (c : tie.Else3) → let a = c.before.before.before.before.before.args in length (line array_mark a.words) ≤ length a.buffer.now
-room c = omega (arith, c.if3.false, c.before.count-digits.ensures, line-length c.before.before.before.before.before.args.words)
+room : (c : tie.Else-buffer-count_digits) → let a = c.args in length (line array_mark a.words) ≤ length a.buffer.now
+room c = omega (arith, c.if-buffer-count_digits.false, c.count_digits.ensures, line-length c.args.words)
 
-returns-4 : tie.Need-returns-4
+returns-4 : tie.Need-returns
 returns-4 c =
-    let p = c.before.before in
-    let e = p.before.before in
-    let s = e.before.before.before.before.before in
-    begin-wrote s.args.buffer.now s.args.words (omega arith) (omega arith) (room e) p.put-array.ensures
+    let p = c in
+    let e = p.before.before.before.before in
+    let s = e in
+    begin-wrote s.args.buffer.now s.args.words (omega arith) (omega arith) (room e) p.put_array.ensures
 
-pub begin-command-spec : {M : Type 1} → statement M
-begin-command-spec =
+pub begin_command_spec : {M : Type 1} → statement M
+begin_command_spec =
     tie.close
     (tie.spec
-    (λ c. let s = c.before.before in begin-few s.args.buffer.now s.args.words (omega arith))
-    (λ c. let s = c.before.before.before in begin-many s.args.buffer.now s.args.words (omega arith))
+    (λ c. let s = c in begin-few s.args.buffer.now s.args.words (omega arith))
+    (λ c. let s = c in begin-many s.args.buffer.now s.args.words (omega arith))
     (λ c κs. search rules)
     (λ c. omega (arith, few c))
     returns-3

@@ -5,14 +5,14 @@ use Rattle.build.proofs.Sizes.{bulk-length, few-digits}
 use Rattle.build.proofs.bulk_len.Statement.{statement}
 use Rattle.build.proofs.bulk_len.Tie as tie
 
-add-result : tie.Need-overflow-add-result
-add-result c = let s = c.before.before in omega (arith, c.count-digits.ensures, few-digits s.args.word.now s.requires)
+add-result : tie.Need-overflow_add-result
+add-result c = let s = c in omega (arith, c.count_digits.ensures, few-digits s.args.word.now s.requires)
 
-add-result-2 : tie.Need-overflow-add-result-2
-add-result-2 c = let s = c.before.before in omega (arith, c.count-digits.ensures, few-digits s.args.word.now s.requires)
+add-result-2 : tie.Need-overflow_add-result-2
+add-result-2 c = let s = c in omega (arith, c.count_digits.ensures, few-digits s.args.word.now s.requires)
 
 returns : tie.Need-returns
-returns c = omega (arith, c.count-digits.ensures, bulk-length c.before.before.args.word.now)
+returns c = omega (arith, c.count_digits.ensures, bulk-length c.args.word.now)
 
-pub bulk-len-spec : {M : Type 1} → statement M
-bulk-len-spec = tie.close (tie.spec (λ c κs. search rules) add-result add-result-2 returns)
+pub bulk_len_spec : {M : Type 1} → statement M
+bulk_len_spec = tie.close (tie.spec (λ c κs. search rules) add-result add-result-2 returns)

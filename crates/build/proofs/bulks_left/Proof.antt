@@ -10,41 +10,41 @@ use Rattle.build.proofs.Left.{count, left-zero, left_end, left-malformed, left-n
 use Rattle.build.proofs.bulks_left.Statement.{statement}
 use Rattle.build.proofs.bulks_left.Tie as tie
 
-abbrev invariant-loop : tie.invariant-loop
+abbrev invariant-loop : tie.invariant-loop-place
 invariant-loop s at n place₀ left₀ place left = bulks_left n (drop at s) ≡ bulks_left left (drop place s)
 
-abbrev decreases-loop : tie.decreases-loop
+abbrev decreases-loop : tie.decreases-loop-place
 decreases-loop s at n place₀ left₀ place left = left
 
-some_left : (c : tie.Else1 invariant-loop decreases-loop) → 0 < c.before.before.loop.left
+some_left : (c : tie.Else-left-eq0 invariant-loop decreases-loop) → 0 < c.loop-place.left
 some_left c = omega arith
 
-returns : tie.Need-returns invariant-loop decreases-loop
+returns : tie.Need-returns-then-left-eq0 invariant-loop decreases-loop
 returns c =
-    let l = c.before.before in
-    let x = drop l.loop.place l.before.before.args.s.now in
-    sym (ap count l.loop.invariant ∙ (ap (λ (n : ℕ). count (bulks_left n x)) c.if1.true ∙ left-zero x))
+    let l = c in
+    let x = drop l.loop-place.place l.args.s.now in
+    sym (ap count l.loop-place.invariant ∙ (ap (λ (n : ℕ). count (bulks_left n x)) c.if-left-eq0.true ∙ left-zero x))
 
-returns-2 : tie.Need-returns-2 invariant-loop decreases-loop
+returns-2 : tie.Need-returns-in_default invariant-loop decreases-loop
 returns-2 c =
-    let r = c.before.before in
-    let e = r.before in
-    let l = e.before.before in
-    sym (ap count (l.loop.invariant ∙ left-malformed _ _ _ e.before.loop-test.true (some_left e) (sym r.read-bulk.ensures ∙ c.enum_told.given.1)))
+    let r = c in
+    let e = r.before.before in
+    let l = e in
+    sym (ap count (l.loop-place.invariant ∙ left-malformed _ _ _ e.loop-place-test.true (some_left e) (sym r.read_bulk.ensures ∙ c.in_default.is)))
 
-loop-again : tie.Need-loop-preserved invariant-loop decreases-loop
+loop-again : tie.Need-loop-place-preserved invariant-loop decreases-loop
 loop-again c =
-    let w = c.before in
-    let r = w.before.before in
-    let e = r.before in
-    let l = e.before.before in
-    l.loop.invariant ∙ left-next _ _ _ e.before.loop-test.true (some_left e) (word-at _ _ (sym r.read-bulk.ensures ∙ w.next.given.1))
+    let w = c in
+    let r = w in
+    let e = r.before.before in
+    let l = e in
+    l.loop-place.invariant ∙ left-next _ _ _ e.loop-place-test.true (some_left e) (word-at _ _ (sym r.read_bulk.ensures ∙ w.in-At.is))
 
-returns-3 : tie.Need-returns-3 invariant-loop decreases-loop
-returns-3 c = let l = c.before in sym (ap count (l.loop.invariant ∙ left_end _ _ _ c.loop-test.false))
+returns-3 : tie.Need-returns invariant-loop decreases-loop
+returns-3 c = let l = c in sym (ap count (l.loop-place.invariant ∙ left_end _ _ _ c.loop-place-test.false))
 
-pub bulks-left-spec : {M : Type 1} → statement M
-bulks-left-spec =
+pub bulks_left_spec : {M : Type 1} → statement M
+bulks_left_spec =
     tie.close
     (tie.spec
     invariant-loop

@@ -12,21 +12,21 @@ use Rattle.build.proofs.Sizes.{bulk-length, few-digits}
 use Rattle.build.proofs.word_fits.Statement.{statement}
 use Rattle.build.proofs.word_fits.Tie as tie
 
-returns : tie.Need-returns
+returns : tie.Need-returns-then-word-gt512
 returns c =
-    let a = c.before.before.args in
-    rw (lt-leb (a.len + length (bulk_bytes a.word.now)) command_limit (omega (arith, bulk-length a.word.now, c.if1.true)))
+    let a = c.args in
+    rw (lt-leb (a.len + length (bulk_bytes a.word.now)) command_limit (omega (arith, bulk-length a.word.now, c.if-word-gt512.true)))
 
-add-end : tie.Need-overflow-add-end
+add-end : tie.Need-overflow_add-end
 add-end c =
-    let s = c.before.before.before in
+    let s = c in
     let w = s.args.word.now in
-    omega (arith, c.bulk-len.ensures, bulk-length w, few-digits w c.before.if1.false, c.before.if1.false, s.requires)
+    omega (arith, c.bulk_len.ensures, bulk-length w, few-digits w c.if-word-gt512.false, c.if-word-gt512.false, s.requires)
 
-returns-2 : tie.Need-returns-2
+returns-2 : tie.Need-returns
 returns-2 c =
-    let a = c.before.before.before.args in
-    ap (λ (n : ℕ). leb (a.len + n) command_limit && leb (a.len + n) a.cap) c.bulk-len.ensures
+    let a = c.args in
+    ap (λ (n : ℕ). leb (a.len + n) command_limit && leb (a.len + n) a.cap) c.bulk_len.ensures
 
-pub word-fits-spec : {M : Type 1} → statement M
-word-fits-spec = tie.close (tie.spec returns (λ c κs. search rules) add-end returns-2)
+pub word_fits_spec : {M : Type 1} → statement M
+word_fits_spec = tie.close (tie.spec returns (λ c κs. search rules) add-end returns-2)

@@ -9,20 +9,20 @@ use Rattle.build.proofs.words_left.Statement.{statement}
 use Rattle.build.proofs.words_left.Tie as tie
 
 -- the first line
-first : (c : tie.After-value) → LineAt array_mark c.before.before.before.before.args.s.now 0 c.value.given.0.0 c.value.given.0.1.0
-first c = line_at array_mark _ 0 (sym c.before.before.read-line.ensures ∙ c.value.given.1)
+first : (c : tie.In-Number) → LineAt array_mark c.args.s.now 0 c.in-Number.value c.in-Number.next
+first c = line_at array_mark _ 0 (sym c.read_line.ensures ∙ c.in-Number.is)
 
-returns : tie.Need-returns
-returns c = sym (ap count (left-unread _ (sym c.before.before.read-line.ensures ∙ c.enum_told.given.1)))
+returns : tie.Need-returns-in_default
+returns c = sym (ap count (left-unread _ (sym c.read_line.ensures ∙ c.in_default.is)))
 
-returns-2 : tie.Need-returns-2
-returns-2 c = sym (ap count (left-many _ (first c.before.before) (omega arith)))
+returns-2 : tie.Need-returns-then-value-gt16
+returns-2 c = sym (ap count (left-many _ (first c.before) (omega arith)))
 
-returns-3 : tie.Need-returns-3
-returns-3 c = c.bulks-left.ensures ∙ sym (left-few _ (first c.before.before.before) (omega arith))
+returns-3 : tie.Need-returns
+returns-3 c = c.bulks_left.ensures ∙ sym (left-few _ (first c.before.before) (omega arith))
 
-pub words-left-spec : {M : Type 1} → statement M
-words-left-spec =
+pub words_left_spec : {M : Type 1} → statement M
+words_left_spec =
     tie.close
     (tie.spec
     (λ c κs. search rules)

@@ -5,15 +5,15 @@ use Rattle.count.proofs.Sums.{floored-below, floored-other}
 use Rattle.count.proofs.floor.Statement.{statement}
 use Rattle.count.proofs.floor.Tie as tie
 
-returns : tie.Need-returns
+returns : tie.Need-returns-then-z-lt0
 returns c =
     let s = c.before.before in
-    rw c.before.if1.true (sym (floored-below s.args.z (simp (back_is s.ranges.z) at c.if2.true)))
+    rw c.if-non_negative.true (sym (floored-below s.args.z (simp (back_is s.ranges.z) at c.if-z-lt0.true)))
 
-returns-2 : tie.Need-returns-2
+returns-2 : tie.Need-returns-then-non_negative
 returns-2 c =
     let s = c.before.before in
-    rw (c.before.if1.true, back_is s.ranges.z) (sym (floored-other s.args.z (simp (back_is s.ranges.z) at c.if2.false)))
+    rw (c.if-non_negative.true, back_is s.ranges.z) (sym (floored-other s.args.z (simp (back_is s.ranges.z) at c.if-z-lt0.false)))
 
-pub floor-spec : {M : Type 1} → statement M
-floor-spec = tie.close (tie.spec returns returns-2 (λ c. rw (c.if1.false, back_is c.before.ranges.z)))
+pub floor_spec : {M : Type 1} → statement M
+floor_spec = tie.close (tie.spec returns returns-2 (λ c. rw (c.if-non_negative.false, back_is c.ranges.z)))

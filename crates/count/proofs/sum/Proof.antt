@@ -22,69 +22,69 @@ use Rattle.count.proofs.sum.Statement.{statement}
 use Rattle.count.proofs.sum.Tie as tie
 
 -- the increment, the floored sum, and what the first call gave of it
-abbrev increment : tie.After-add-floored → Increment
-increment c = model_increment c.before.before.args.increment
+abbrev increment : tie.After-add_floored → Increment
+increment c = model_increment c.args.increment
 
-abbrev floored-sum : tie.After-add-floored → ℤ
-floored-sum c = let a = c.before.before.args in floored a.increment.non_negative (a.stored +ℤ a.increment.by)
+abbrev floored-sum : tie.After-add_floored → ℤ
+floored-sum c = let a = c.args in floored a.increment.non_negative (a.stored +ℤ a.increment.by)
 
-sum_is : (c : tie.After-add-floored) → c.add-floored.result ≡ sum_from (floored-sum c)
+sum_is : (c : tie.After-add_floored) → c.add_floored.result ≡ sum_from (floored-sum c)
 sum_is c =
     let s = c.before in
-    let f : SFits w64 s.before.args.increment.by = record { sfits = s.struct_told.given.1.1.1.0.1 } in
-    simp (back_is s.before.ranges.stored, back_is f) at c.add-floored.ensures
+    let f : SFits w64 s.args.increment.by = record { sfits = s.struct_told-1.given.1.1.1.0.1 } in
+    simp (back_is s.ranges.stored, back_is f) at c.add_floored.ensures
 
-fitting : (c : tie.After-z) → sum_from (floored-sum c.before.before) ≡ Fits c.z.given.0.0
-fitting c = sym (sum_is c.before.before) ∙ c.z.given.1
+fitting : (c : tie.In-Fits) → sum_from (floored-sum c.before) ≡ Fits c.in-Fits.z
+fitting c = sym (sum_is c.before) ∙ c.in-Fits.is
 
 -- the sum is an i64
-fits : (c : tie.After-known-told) → SFits w64 c.before.z.given.0.0
-fits c = record { sfits = c.known-told.given.0.1 }
+fits : (c : tie.In-Fits) → SFits w64 c.in-Fits.z
+fits c = record { sfits = c.in-Fits.known_told-1-own.given.0.1 }
 
 -- the two tests of the bounds
-below-is : (c : tie.After-not-below) → let z = c.before.before in
-    c.not-below.result ≡ not_below (model_bound z.before.before.before.before.args.increment.min) z.z.given.0.0
-below-is c = simp (back_is (fits c.before)) at c.not-below.ensures
+below-is : (c : tie.After-not_below) → let z = c.before in
+    c.not_below.result ≡ not_below (model_bound z.args.increment.min) z.in-Fits.z
+below-is c = simp (back_is (fits c.before)) at c.not_below.ensures
 
-above-is : (c : tie.After-not-above) → let z = c.before.before.before.before in
-    c.not-above.result ≡ not_above (model_bound z.before.before.before.before.args.increment.max) z.z.given.0.0
-above-is c = simp (back_is (fits c.before.before.before)) at c.not-above.ensures
+above-is : (c : tie.After-not_above) → let z = c.before.before.before in
+    c.not_above.result ≡ not_above (model_bound z.args.increment.max) z.in-Fits.z
+above-is c = simp (back_is (fits c.before.before.before)) at c.not_above.ensures
 
-returns : tie.Need-returns
+returns : tie.Need-returns-in_default
 returns c =
     let a = c.before in
     sym
     (bounded-outside (increment a) (floored-sum a)
-    (subst (λ (s : Sum). OneOf (1 ∷ 2 ∷ []) (tag_of the_type s)) (sum_is a) c.match.keys2))
+    (subst (λ (s : Sum). OneOf (1 ∷ 2 ∷ []) (tag_of the_type s)) (sum_is a) c.in_default.in_default-own.keys2))
 
-returns-2 : tie.Need-returns-2
+returns-2 : tie.Need-returns-then-not-not_below
 returns-2 c =
     let low = c.before in
-    let z = low.before.before in
-    let a = z.before.before in
-    sym (bounded-low (increment a) (floored-sum a) _ (fitting z) (sym (below-is low) ∙ not-true _ c.if1.true))
+    let z = low.before in
+    let a = z.before in
+    sym (bounded-low (increment a) (floored-sum a) _ (fitting z) (sym (below-is low) ∙ c.if-not-not_below.true))
 
-returns-3 : tie.Need-returns-3
+returns-3 : tie.Need-returns-then-not-not_above
 returns-3 c =
     let high = c.before in
     let low = high.before.before in
-    let z = low.before.before in
-    let a = z.before.before in
+    let z = low.before in
+    let a = z.before in
     sym
-    (bounded-high (increment a) (floored-sum a) _ (fitting z) (sym (below-is low) ∙ not-false _ high.before.if1.false) (sym (above-is high) ∙ not-true _ c.if2.true))
+    (bounded-high (increment a) (floored-sum a) _ (fitting z) (sym (below-is low) ∙ high.if-not-not_below.false) (sym (above-is high) ∙ c.if-not-not_above.true))
 
-returns-4 : tie.Need-returns-4
+returns-4 : tie.Need-returns
 returns-4 c =
     let high = c.before in
     let low = high.before.before in
-    let z = low.before.before in
-    let a = z.before.before in
+    let z = low.before in
+    let a = z.before in
     ap ok (back_is (fits low.before))
     ∙ sym
-    (bounded-within (increment a) (floored-sum a) _ (fitting z) (sym (below-is low) ∙ not-false _ high.before.if1.false) (sym (above-is high) ∙ not-false _ c.if2.false))
+    (bounded-within (increment a) (floored-sum a) _ (fitting z) (sym (below-is low) ∙ high.if-not-not_below.false) (sym (above-is high) ∙ c.if-not-not_above.false))
 
-pub sum-spec : {M : Type 1} → statement M
-sum-spec =
+pub sum_spec : {M : Type 1} → statement M
+sum_spec =
     tie.close
     (tie.spec
     (λ c κs. search rules)

@@ -7,7 +7,7 @@ use Rattle.count.proofs.sum_absent.Statement.{statement}
 use Rattle.count.proofs.sum_absent.Tie as tie
 
 returns : tie.Need-returns
-returns c = c.sum.ensures ∙ sym (total-absent (model_increment c.before.args.increment))
+returns c = c.sum.ensures ∙ sym (total-absent (model_increment c.args.increment))
 
-pub sum-absent-spec : {M : Type 1} → statement M
-sum-absent-spec = tie.close (tie.spec (λ c κs. search rules) returns)
+pub sum_absent_spec : {M : Type 1} → statement M
+sum_absent_spec = tie.close (tie.spec (λ c κs. search rules) returns)

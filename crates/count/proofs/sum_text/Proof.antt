@@ -9,21 +9,21 @@ use borrow.Author.Rules.{rules}
 use Rattle.count.proofs.sum_text.Statement.{statement}
 use Rattle.count.proofs.sum_text.Tie as tie
 
-returns : tie.Need-returns
+returns : tie.Need-returns-in_default
 returns c =
-    let r = c.before.before in
-    sym (total-bad (model_increment r.before.before.args.increment) _ (sym r.read-signed.ensures ∙ c.enum_told.given.1))
+    let r = c.before in
+    sym (total-bad (model_increment r.args.increment) _ (sym r.read_signed.ensures ∙ c.in_default.is))
 
-returns-2 : tie.Need-returns-2
+returns-2 : tie.Need-returns
 returns-2 c =
-    let v = c.before.before in
-    let r = v.before.before in
-    let f : SFits w64 v.stored.given.0.0 = record { sfits = c.before.known-told.given.0.1 } in
+    let v = c.before in
+    let r = v.before in
+    let f : SFits w64 v.in-Value.stored = record { sfits = c.in-Value.known_told-1-own.given.0.1 } in
     simp (back_is f) at c.sum.ensures
-    ∙ sym (total-read (model_increment r.before.before.args.increment) _ _ (sym r.read-signed.ensures ∙ v.stored.given.1))
+    ∙ sym (total-read (model_increment r.args.increment) _ _ (sym r.read_signed.ensures ∙ v.in-Value.is))
 
-pub sum-text-spec : {M : Type 1} → statement M
-sum-text-spec =
+pub sum_text_spec : {M : Type 1} → statement M
+sum_text_spec =
     tie.close
     (tie.spec
     (λ c κs. search rules)

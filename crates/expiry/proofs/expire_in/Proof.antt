@@ -21,20 +21,19 @@ row c e = let a = c.args in sym (ap (λ (x : Lifetime). expire_in a.time a.keeps
 
 expiry-requires : tie.Need-expiry-requires
 expiry-requires c κs =
-    let l = c.before.before in
-    let b = l.before.before in
-    subst (λ (n : ℕ). n ≤ time_limit) (sym c.start.ensures) (by_cond (λ n. n ≤ time_limit) l.lifetime.given.0.1.0 b.args.time 0 b.requires (omega arith))
+    let l = c.before in
+    let b = l.before in
+    subst (λ (n : ℕ). n ≤ time_limit) (sym c.start.ensures) (by_cond (λ n. n ≤ time_limit) l.in-Until.from_now b.args.time 0 b.requires (omega arith))
 
-returns-3 : tie.Need-returns-3
+returns-3 : tie.Need-returns-in-Until
 returns-3 c =
-    let l = c.before.before.before in
-    let u = l.lifetime.given.0 in
-    let fits : SFits w64 u.1.1.0 = record { sfits = c.before.before.known-told.given.1.1.0.1 } in
+    let l = c.before.before in
+    let fits : SFits w64 l.in-Until.number = record { sfits = c.in-Until.known_told-1-own.given.1.1.0.1 } in
     c.expiry.ensures
-    ∙ ((λ i. expire_in (c.before.start.ensures i) false (until u.0 true (back_is fits i))) ∙ row l.before.before l.lifetime.given.1)
+    ∙ ((λ i. expire_in (c.start.ensures i) false (until l.in-Until.unit true (back_is fits i))) ∙ row l.before l.in-Until.is)
 
-pub expire-in-spec : {M : Type 1} → statement M
-expire-in-spec =
+pub expire_in_spec : {M : Type 1} → statement M
+expire_in_spec =
     tie.close
     (tie.spec
     (λ c. search rules)
@@ -43,6 +42,6 @@ expire-in-spec =
     (λ c. search rules)
     (λ c κs. search rules)
     expiry-requires
-    (λ c. let b = c.before.before.before in c.expire-unsaid.ensures b.args.time ∙ row b c.before.enum_told.given.1)
-    (λ c. row c.before.before c.enum-told2.given.1)
+    (λ c. let b = c.before.before in c.expire_unsaid.ensures b.args.time ∙ row b c.in-Unsaid.is)
+    (λ c. row c.before c.in-Kept.is)
     returns-3)

@@ -5,9 +5,9 @@ use Rattle.model.specs.Options.{unsaid, expire_in}
 use Rattle.expiry.proofs.expire_unsaid.Statement.{statement}
 use Rattle.expiry.proofs.expire_unsaid.Tie as tie
 
-pub expire-unsaid-spec : {M : Type 1} → statement M
-expire-unsaid-spec =
+pub expire_unsaid_spec : {M : Type 1} → statement M
+expire_unsaid_spec =
     tie.close
     (tie.spec
-    (λ c time. sym (ap (λ (b : Bool). expire_in time b unsaid) c.if1.true))
-    (λ c time. sym (ap (λ (b : Bool). expire_in time b unsaid) c.if1.false)))
+    (λ c time. sym (ap (λ (b : Bool). expire_in time b unsaid) c.if-keeps.true))
+    (λ c time. sym (ap (λ (b : Bool). expire_in time b unsaid) c.if-keeps.false)))

@@ -18,37 +18,37 @@ use Rattle.expiry.proofs.expiry.Tie as tie
 is : (c : tie.Start) → back c.args.z ≡ c.args.z
 is c = back_is c.ranges.z
 
-low : (c : tie.Else1) → From1 c.before.args.z
-low c = from-1 c.before.args.z (ap (λ (z : ℤ). lt_z z (pos 1)) (sym (is c.before)) ∙ c.if1.false)
+low : (c : tie.Else-z-lt1) → From1 c.args.z
+low c = from-1 c.args.z (ap (λ (z : ℤ). lt_z z (pos 1)) (sym (is c.before)) ∙ c.if-z-lt1.false)
 
-tested : (c : tie.After-in-time) {b : Bool} → c.in-time.result ≡ b → let a = c.before.before.args in leb (a.from + a.unit * nat_abs a.z) time_limit ≡ b
+tested : (c : tie.After-in_time) {b : Bool} → c.in_time.result ≡ b → let a = c.args in leb (a.from + a.unit * nat_abs a.z) time_limit ≡ b
 tested c e =
-    let a = c.before.before.args in
-    ap (λ (z : ℤ). leb (a.from + a.unit * nat_abs z) time_limit) (sym (is c.before.before)) ∙ (sym c.in-time.ensures ∙ e)
+    let a = c.args in
+    ap (λ (z : ℤ). leb (a.from + a.unit * nat_abs z) time_limit) (sym (is c.before.before)) ∙ (sym c.in_time.ensures ∙ e)
 
-sum : (c : tie.Then2) → let a = c.before.before.before.args in a.from + a.unit * nat_abs a.z ≤ time_limit
-sum c = leb-true _ _ (tested c.before c.if2.true)
+sum : (c : tie.Then-in_time) → let a = c.args in a.from + a.unit * nat_abs a.z ≤ time_limit
+sum c = leb-true _ _ (tested c.before c.if-in_time.true)
 
-returns : tie.Need-returns
-returns c = let b = c.before in too-low b.args.from b.args.unit b.args.z (ap (λ (z : ℤ). lt_z z (pos 1)) (sym (is b)) ∙ c.if1.true)
+returns : tie.Need-returns-then-z-lt1
+returns c = let b = c.before in too-low b.args.from b.args.unit b.args.z (ap (λ (z : ℤ). lt_z z (pos 1)) (sym (is b)) ∙ c.if-z-lt1.true)
 
-cast-n : tie.Need-overflow-cast-n
+cast-n : tie.Need-overflow_cast-n
 cast-n c = let b = c.before in rw (is b, (low c).is) (tt, record { fits = omega (arith, b.ranges.z.sfits, ap mag (low c).is) })
 
-returns-2 : tie.Need-returns-2
+returns-2 : tie.Need-returns-then-in_time
 returns-2 c =
     let l = c.before.before in
     let b = l.before in
-    rw (is b) (from_on b.args.from b.args.unit (low l) (tested c.before c.if2.true))
+    rw (is b) (from_on b.args.from b.args.unit (low l) (tested c.before c.if-in_time.true))
 
-returns-3 : tie.Need-returns-3
+returns-3 : tie.Need-returns
 returns-3 c =
     let l = c.before.before in
     let b = l.before in
-    from_on b.args.from b.args.unit (low l) (tested c.before c.if2.false)
+    from_on b.args.from b.args.unit (low l) (tested c.before c.if-in_time.false)
 
-pub expiry-spec : {M : Type 1} → statement M
-expiry-spec =
+pub expiry_spec : {M : Type 1} → statement M
+expiry_spec =
     tie.close
     (tie.spec
     returns

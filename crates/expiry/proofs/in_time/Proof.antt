@@ -7,14 +7,14 @@ use Rattle.expiry.proofs.Times.{upper_fits, too-late, product-fits, within}
 use Rattle.expiry.proofs.in_time.Statement.{statement}
 use Rattle.expiry.proofs.in_time.Tie as tie
 
-large : (c : tie.Then1) → 2 ^ 30 < c.before.args.unit * (c.before.args.n / 2 ^ 32)
-large c = omega (arith, c.if1.true)
+large : (c : tie.Then-upper) → 2 ^ 30 < c.args.unit * (c.args.n / 2 ^ 32)
+large c = omega (arith, c.if-upper.true)
 
-small : (c : tie.Else1) → c.before.args.unit * (c.before.args.n / 2 ^ 32) ≤ 2 ^ 30
-small c = omega (arith, c.if1.false)
+small : (c : tie.Else-upper) → c.args.unit * (c.args.n / 2 ^ 32) ≤ 2 ^ 30
+small c = omega (arith, c.if-upper.false)
 
-pub in-time-spec : {M : Type 1} → statement M
-in-time-spec =
+pub in_time_spec : {M : Type 1} → statement M
+in_time_spec =
     tie.close
     (tie.spec
     (λ c. record { fits = upper_fits c.args.unit c.args.n c.ranges.unit.fits c.ranges.n.fits })

@@ -4,8 +4,8 @@ use lib.Bits.{and_le_r}
 use Rattle.index.proofs.bucket.Statement.{statement}
 use Rattle.index.proofs.bucket.Tie as tie
 
-pub bucket-spec : {M : Type 1} → statement M
-bucket-spec =
+pub bucket_spec : {M : Type 1} → statement M
+bucket_spec =
     tie.close
     (tie.spec
     (λ c. search rules)

@@ -17,13 +17,13 @@ use Rattle.index.proofs.Keys.{key-first, key-alone, key-absent, key-found}
 use Rattle.index.proofs.find.Statement.{statement}
 use Rattle.index.proofs.find.Tie as tie
 
-returns : tie.Need-returns
+returns : tie.Need-returns-then-key-gt-KEY_LIMIT
 returns c =
     let s = c.before.before.before.before.before in
     let f = form_of s.args.form in
     let t = s.args.table.now in
     let k = s.args.key.now in
-    sym (key-lowest k (slots_of f t) ∙ long-none f k (slots_of f t) 0 c.if1.true (table_of f t s.requires.0).kept)
+    sym (key-lowest k (slots_of f t) ∙ long-none f k (slots_of f t) 0 c.if-key-gt-KEY_LIMIT.true (table_of f t s.requires.0).kept)
 
 -- each slot is a record
 slots : (s : tie.Start) → let f = form_of s.args.form in let t = s.args.table.now in (j : ℕ) → 0 ≤ j → j < count_of f t → IsSlot (record_at f j t)
@@ -39,7 +39,7 @@ slot-requires c κs =
     let t = s.args.table.now in
     inside-table f t s.requires.0 0 (some-slot f t s.requires.0)
 
-has-key-requires : tie.Need-has-key-requires
+has-key-requires : tie.Need-has_key-requires
 has-key-requires c κs =
     let s = c.before.before.before.before.before.before in
     let f = form_of s.args.form in
@@ -47,26 +47,26 @@ has-key-requires c κs =
     subst IsSlot (sym c.slot.ensures) (is-slot f t s.requires.0 0 (some-slot f t s.requires.0) (lawful-form s.args.form))
 
 -- what the call said of slot 0
-told : (c : tie.After-has-key) → let s = c.before.before.before.before.before.before.before in
-    c.has_key_lem.result ≡ key_is (form_of s.args.form) s.args.table.now s.args.key.now 0
+told : (c : tie.After-has_key) → let s = c.before.before.before.before.before.before.before in
+    c.has_key.result ≡ key_is (form_of s.args.form) s.args.table.now s.args.key.now 0
 told c =
     let s = c.before.before.before.before.before.before.before in
-    c.has_key_lem.ensures ∙ ap (has_key s.args.key.now) c.before.slot.ensures
+    c.has_key.ensures ∙ ap (has_key s.args.key.now) c.slot.ensures
 
-returns-2 : tie.Need-returns-2
+returns-2 : tie.Need-returns-then-has_key
 returns-2 c =
     let s = c.before.before.before.before.before.before.before.before in
-    key-first (form_of s.args.form) s.args.table.now s.requires.0 s.args.key.now (sym (told c.before) ∙ c.if2.true)
+    key-first (form_of s.args.form) s.args.table.now s.requires.0 s.args.key.now (sym (told c.before) ∙ c.if-has_key.true)
 
 -- slot 0 does not have the key
-other : (c : tie.Else2) → let s = c.before.before.before.before.before.before.before.before in
+other : (c : tie.Else-has_key) → let s = c.before.before.before.before.before.before.before.before in
     key_is (form_of s.args.form) s.args.table.now s.args.key.now 0 ≡ false
-other c = sym (told c.before) ∙ c.if2.false
+other c = sym (told c.before) ∙ c.if-has_key.false
 
-returns-3 : tie.Need-returns-3
+returns-3 : tie.Need-returns-then-count-eq1
 returns-3 c =
     let s = c.before.before.before.before.before.before.before.before.before.before in
-    key-alone (form_of s.args.form) s.args.table.now s.requires.0 s.args.key.now (other c.before.before) (sym c.before.count.ensures ∙ c.if3.true)
+    key-alone (form_of s.args.form) s.args.table.now s.requires.0 s.args.key.now (other c.before.before) (sym c.count.ensures ∙ c.if-count-eq1.true)
 
 -- the head of the key's bucket
 first-told : (c : tie.After-bucket) → let s = c.before.before.before.before.before.before.before.before.before.before.before.before in
@@ -76,29 +76,29 @@ unfolding bucket_of
 first-told c =
     let s = c.before.before.before.before.before.before.before.before.before.before.before.before in
     let heads = s.args.heads.now in
-    ap (λ (b : ℕ). get_or heads b 0) (c.bucket.ensures.0 ∙ ap (λ (h : ℕ). bit_and h (length heads - 1)) c.before.of-key.ensures)
+    ap (λ (b : ℕ). get_or heads b 0) (c.bucket.ensures.0 ∙ ap (λ (h : ℕ). bit_and h (length heads - 1)) c.of_key.ensures)
 
-search-chain-requires : tie.Need-search-chain-requires
+search-chain-requires : tie.Need-search_chain-at-requires
 search-chain-requires c κs =
     let s = c.before.before.before.before.before.before.before.before.before.before.before.before.before in
     indexed-chain (form_of s.args.form) s.args.table.now 0 s.requires.1 (slots s) s.args.key.now _ (first-told c.before)
 
 -- what the search said
-found : (c : tie.After-search-chain) → let s = c.before.before.before.before.before.before.before.before.before.before.before.before.before.before in
+found : (c : tie.After-search_chain-at) → let s = c.before.before.before.before.before.before.before.before.before.before.before.before.before.before in
     let f = form_of s.args.form in
-    c.search-chain.result ≡ entry_from (key_is f s.args.table.now s.args.key.now) (count_of f s.args.table.now) 0
+    c.search_chain-at.result ≡ entry_from (key_is f s.args.table.now s.args.key.now) (count_of f s.args.table.now) 0
 found c =
     let s = c.before.before.before.before.before.before.before.before.before.before.before.before.before.before in
-    c.search-chain.ensures
+    c.search_chain-at.ensures
     ∙ sym (indexed-entry (form_of s.args.form) s.args.table.now 0 s.requires.1 (slots s) s.args.key.now _ (first-told c.before.before))
 
-returns-4 : tie.Need-returns-4
+returns-4 : tie.Need-returns-then-at-eq0
 returns-4 c =
     let n = c.before.before.before.before.before.before.before in
     let s = n.before.before.before.before.before.before.before.before in
-    key-absent (form_of s.args.form) s.args.table.now s.requires.0 s.args.key.now (other n) _ (found c.before) c.if4.true
+    key-absent (form_of s.args.form) s.args.table.now s.requires.0 s.args.key.now (other n) _ (found c.before) c.if-at-eq0.true
 
-returns-5 : tie.Need-returns-5
+returns-5 : tie.Need-returns
 returns-5 c =
     let n = c.before.before.before.before.before.before.before in
     let s = n.before.before.before.before.before.before.before.before in
@@ -110,5 +110,5 @@ find_spec =
     (tie.spec
     returns slot-requires has-key-requires returns-2 (λ c κs. search rules) returns-3 (λ c κs. search rules) (λ c κs. search rules)
     (λ c. search rules)
-    (λ c. omega (arith, c.shared-slice-known5.given c.before.bucket.result))
+    (λ c. omega (arith, c.shared_slice_known-5-1.given c.bucket.result))
     search-chain-requires returns-4 returns-5)

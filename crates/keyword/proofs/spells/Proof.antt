@@ -9,19 +9,19 @@ use Rattle.keyword.proofs.Codes.{other_length, code_same}
 use Rattle.keyword.proofs.spells.Statement.{statement}
 use Rattle.keyword.proofs.spells.Tie as tie
 
-returns : tie.Need-returns
+returns : tie.Need-returns-then-w-n
 returns c =
-    let a = c.before.before.args in
+    let a = c.args in
     record { told = sym (other_length a.w.now (little_endian a.n a.number) (λ e. omega (arith, length-little_endian a.n a.number))) }
 
-returns-2 : tie.Need-returns-2
+returns-2 : tie.Need-returns
 returns-2 c =
     let s = c.before.before in
-    let a = s.before.args in
+    let a = s.args in
     record {
-      told = rw c.code_of_lem.ensures
-          (code_same a.w.now a.n a.number (λ i. (s.shared-slice-known.given i).fits) (omega arith) s.before.requires.1);
+      told = rw c.code_of.ensures
+          (code_same a.w.now a.n a.number (λ i. (s.shared_slice_known-1.given i).fits) (omega arith) s.requires.1);
     }
 
-pub spells-spec : {M : Type 1} → statement M
-spells-spec = tie.close (tie.spec returns (λ c κs. search rules) returns-2)
+pub spells_spec : {M : Type 1} → statement M
+spells_spec = tie.close (tie.spec returns (λ c κs. search rules) returns-2)

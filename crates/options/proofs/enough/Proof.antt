@@ -8,7 +8,7 @@ use Rattle.options.proofs.enough.Statement.{statement}
 use Rattle.options.proofs.enough.Tie as tie
 
 returns : tie.Need-returns
-returns c = λ ws gs t. ap (λ (b : Bool). not c.before.before.before.args.rule.timed || b) (has-group t time_word)
+returns c = λ ws gs t. ap (λ (b : Bool). not c.args.rule.timed || b) (has-group t time_word)
 
-pub enough-spec : {M : Type 1} → statement M
-enough-spec = tie.close (tie.spec (λ c. search rules) returns)
+pub enough_spec : {M : Type 1} → statement M
+enough_spec = tie.close (tie.spec (λ c. search rules) returns)

@@ -7,6 +7,6 @@ use Rattle.options.specs.Options.{model_given}
 use Rattle.options.proofs.no_options.Statement.{statement}
 use Rattle.options.proofs.no_options.Tie as tie
 
-pub no-options-spec : {M : Type 1} → statement M
-no-options-spec =
+pub no_options_spec : {M : Type 1} → statement M
+no_options_spec =
     tie.close (tie.spec (λ c ws. record { ten = refl; picks = λ k. sym (ap (model_given ws) (get_or-replicate 10 (kind_no k) _ _ (kind-small k))) }))

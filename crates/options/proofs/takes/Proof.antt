@@ -11,15 +11,15 @@ use Rattle.command.proofs.Bits.{kind-small, takes-bit}
 use Rattle.options.proofs.takes.Statement.{statement}
 use Rattle.options.proofs.takes.Tie as tie
 
-small : (c : tie.After-kind-of) → c.kind-of.result < 16
-small c = omega (arith, c.kind-of.ensures, kind-small (opt_rule_of (model_opt c.before.args.opt)).kind)
+small : (c : tie.After-kind_of) → c.kind_of.result < 16
+small c = omega (arith, c.kind_of.ensures, kind-small (opt_rule_of (model_opt c.args.opt)).kind)
 
 returns : tie.Need-returns
 returns c =
-    let a = c.before.before.args in
-    ap (λ (k : ℕ). eqb (bit_and (a.rule.kinds / 2 ^ k) 1) 1) c.before.kind-of.ensures
+    let a = c.args in
+    ap (λ (k : ℕ). eqb (bit_and (a.rule.kinds / 2 ^ k) 1) 1) c.kind_of.ensures
     ∙ (ap (λ (x : ℕ). eqb x 1) (and_mask (a.rule.kinds / 2 ^ kind_no (opt_rule_of (model_opt a.opt)).kind) 1)
     ∙ sym (takes-bit a.rule.kinds (opt_rule_of (model_opt a.opt)).kind))
 
-pub takes-spec : {M : Type 1} → statement M
-takes-spec = tie.close (tie.spec (λ c κs. search rules) (λ c. record { fits = omega (arith, small c) }) (λ c. small c.before) returns)
+pub takes_spec : {M : Type 1} → statement M
+takes_spec = tie.close (tie.spec (λ c κs. search rules) (λ c. record { fits = omega (arith, small c) }) (λ c. small c.before) returns)

@@ -13,17 +13,17 @@ use Rattle.piece.proofs.put_bulk.Statement.{statement}
 use Rattle.piece.proofs.put_bulk.Tie as tie
 
 -- what is left of the buffer after the line
-after_line : (c : tie.After-put-line)
-    → c.put-line.result + length (c.before.before.before.before.args.s.now ++ crlf) ≤ length c.put-line.new.0
-after_line c = let b = c.before.before.before.before in room_after (b.args.s.now ++ crlf) b.requires c.put-line.ensures
+after_line : (c : tie.After-put_line-start)
+    → c.put_line-start.result + length (c.args.s.now ++ crlf) ≤ length c.put_line-start.new.buf
+after_line c = let b = c.before.before.before.before in room_after (b.args.s.now ++ crlf) b.requires c.put_line-start.ensures
 
 -- the bytes were written after the line
 wrote-bytes : (c : tie.After-copy) → let p = c.before.before.before.before in
-    let s = p.before.before.before.before.args.s.now in
-    Wrote p.put-line.result s p.put-line.new.0 c.copy.new.0 (p.put-line.result + length s)
+    let s = p.args.s.now in
+    Wrote p.put_line-start.result s p.put_line-start.new.buf c.copy.new.buf (p.put_line-start.result + length s)
 wrote-bytes c = record { place = refl; bytes = c.copy.ensures }
 
-put-line-requires : tie.Need-put-line-requires
+put-line-requires : tie.Need-put_line-start-requires
 put-line-requires c κs =
     let b = c.before.before.before in
     let s = b.args.s.now in
@@ -32,18 +32,18 @@ put-line-requires c κs =
 copy-requires : tie.Need-copy-requires
 copy-requires c κs =
     let p = c.before.before.before in
-    room-first p.put-line.result p.before.before.before.before.args.s.now crlf (after_line p)
+    room-first p.put_line-start.result p.args.s.now crlf (after_line p)
 
 -- the place after the bytes
 end_fits : (c : tie.After-copy) → let p = c.before.before.before.before in
-    p.put-line.result + length p.before.before.before.before.args.s.now + length crlf ≤ length c.copy.new.0
+    p.put_line-start.result + length p.args.s.now + length crlf ≤ length c.copy.new.buf
 end_fits c = room_after crlf (after_line c.before.before.before.before) (wrote-bytes c)
 
-add-put-line-end : tie.Need-overflow-add-put-line-end
+add-put-line-end : tie.Need-overflow_add-start
 add-put-line-end c =
     let w = c.before.before.before in
     let p = w.before.before.before.before in
-    omega (arith, end_fits w, w.copy.auto, p.put-line.auto, p.before.before.before.before.well-formed)
+    omega (arith, end_fits w, w.copy.auto, p.put_line-start.auto, p.well_formed)
 
 returns : tie.Need-returns
 returns c =
@@ -51,10 +51,10 @@ returns c =
     let w = e.before.before.before.before in
     let p = w.before.before.before.before in
     let b = p.before.before.before.before in
-    wrote_then (omega (arith, b.requires)) p.put-line.ensures (wrote_then (omega (arith, after_line p)) (wrote-bytes w) e.put-line-end.ensures)
+    wrote_then (omega (arith, b.requires)) p.put_line-start.ensures (wrote_then (omega (arith, after_line p)) (wrote-bytes w) e.put_line_end.ensures)
 
-pub put-bulk-spec : {M : Type 1} → statement M
-put-bulk-spec =
+pub put_bulk_spec : {M : Type 1} → statement M
+put_bulk_spec =
     tie.close
     (tie.spec
     put-line-requires

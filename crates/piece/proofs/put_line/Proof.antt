@@ -6,18 +6,18 @@ use Rattle.piece.proofs.Pieces.{room-text, room-end, wrote-line}
 use Rattle.piece.proofs.put_line.Statement.{statement}
 use Rattle.piece.proofs.put_line.Tie as tie
 
-write-natural-requires : tie.Need-write-natural-requires
+write-natural-requires : tie.Need-write_natural-end-requires
 write-natural-requires c κs =
     let b = c.before.before in
     let a = b.args in
     room-text a.at a.mark (nat_text a.n) a.buf.now b.requires
 
-put-line-end-requires : tie.Need-put-line-end-requires
+put-line-end-requires : tie.Need-put_line_end-requires
 put-line-end-requires c κs =
     let p = c.before.before.before in
     let b = p.before.before.before in
     let a = b.args in
-    room-end a.at a.mark (nat_text a.n) a.buf.now b.requires p.write-natural.ensures
+    room-end a.at a.mark (nat_text a.n) a.buf.now b.requires p.write_natural-end.ensures
 
 returns : tie.Need-returns
 returns c =
@@ -25,13 +25,13 @@ returns c =
     let p = e.before.before.before.before in
     let b = p.before.before.before in
     let a = b.args in
-    wrote-line a.at a.mark (nat_text a.n) a.buf.now b.requires p.write-natural.ensures e.put-line-end.ensures
+    wrote-line a.at a.mark (nat_text a.n) a.buf.now b.requires p.write_natural-end.ensures e.put_line_end.ensures
 
-same_length : tie.Need-same-length
-same_length c = same_size c.before.before.before.before.before.before.before.before.before.requires (returns c)
+same_length : tie.Need-shape_of-buf
+same_length c = same_size c.requires (returns c)
 
-pub put-line-spec : {M : Type 1} → statement M
-put-line-spec =
+pub put_line_spec : {M : Type 1} → statement M
+put_line_spec =
     tie.close
     (tie.spec
     (λ c. search rules)

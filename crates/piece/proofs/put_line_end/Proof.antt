@@ -12,6 +12,6 @@ use Rattle.piece.proofs.put_line_end.Tie as tie
 returns : tie.Need-returns
 returns c = record { place = refl; bytes = rw (add-one c.args.at) (written-sets c.args.at crlf c.args.buf.now c.requires) }
 
-pub put-line-end-spec : {M : Type 1} → statement M
-put-line-end-spec =
+pub put_line_end_spec : {M : Type 1} → statement M
+put_line_end_spec =
     tie.close (tie.spec (λ c. search rules) (λ c. search rules) (λ c. simp length-set (omega arith)) (λ c. search rules) (λ c. search rules) returns)

@@ -10,8 +10,8 @@ use Rattle.piece.proofs.put_text.Statement.{statement}
 use Rattle.piece.proofs.put_text.Tie as tie
 
 -- the text was written after the mark
-wrote-text : (c : tie.After-copy) → let a = c.before.before.before.before.args in
-    Wrote (a.at + 1) a.s.now (set a.buf.now a.at a.mark) c.copy.new.0 (a.at + 1 + length a.s.now)
+wrote-text : (c : tie.After-copy) → let a = c.args in
+    Wrote (a.at + 1) a.s.now (set a.buf.now a.at a.mark) c.copy.new.buf (a.at + 1 + length a.s.now)
 wrote-text c = record { place = refl; bytes = c.copy.ensures }
 
 copy-requires : tie.Need-copy-requires
@@ -20,7 +20,7 @@ copy-requires c κs =
     let a = b.args in
     room-text a.at a.mark a.s.now a.buf.now b.requires
 
-put-line-end-requires : tie.Need-put-line-end-requires
+put-line-end-requires : tie.Need-put_line_end-requires
 put-line-end-requires c κs =
     let p = c.before.before.before in
     let b = p.before.before.before.before in
@@ -33,13 +33,13 @@ returns c =
     let p = e.before.before.before.before in
     let b = p.before.before.before.before in
     let a = b.args in
-    wrote-line a.at a.mark a.s.now a.buf.now b.requires (wrote-text p) e.put-line-end.ensures
+    wrote-line a.at a.mark a.s.now a.buf.now b.requires (wrote-text p) e.put_line_end.ensures
 
-same_length : tie.Need-same-length
-same_length c = same_size c.before.before.before.before.before.before.before.before.before.before.requires (returns c)
+same_length : tie.Need-shape_of-buf
+same_length c = same_size c.requires (returns c)
 
-pub put-text-spec : {M : Type 1} → statement M
-put-text-spec =
+pub put_text_spec : {M : Type 1} → statement M
+put_text_spec =
     tie.close
     (tie.spec
     (λ c. search rules)

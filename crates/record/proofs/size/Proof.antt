@@ -3,13 +3,13 @@ use borrow.Author.Rules.{rules}
 use Rattle.record.proofs.size.Statement.{statement}
 use Rattle.record.proofs.size.Tie as tie
 
-enum_told : tie.Need-enum-told
+enum_told : tie.Need-enum_told-1
 enum_told c = search rules
 
-pub size-spec : {M : Type 1} → statement M
-size-spec =
+pub size_spec : {M : Type 1} → statement M
+size_spec =
     tie.close
     (tie.spec
     enum_told (λ c. search rules)
-    (λ c. rw c.enum_told.given.1)
-    (λ c. rw c.enum-told2.given.1))
+    (λ c. rw c.in-Of128.is)
+    (λ c. rw c.in-Of192.is))

@@ -9,61 +9,61 @@ use Rattle.resp.proofs.split.Statement.{statement}
 use Rattle.resp.proofs.split.Tie as tie
 
 -- the first line
-first : (c : tie.After-value)
-    → LineAt array_mark c.before.before.before.before.before.args.s.now 0 c.value.given.0.0 c.value.given.0.1.0
-first c = line_at array_mark _ 0 (sym c.before.before.read-line.ensures ∙ c.value.given.1)
+first : (c : tie.In-Number)
+    → LineAt array_mark c.args.s.now 0 c.in-Number.value c.in-Number.next
+first c = line_at array_mark _ 0 (sym c.read_line.ensures ∙ c.in-Number.is)
 
-enum_told : tie.Need-enum-told
+enum_told : tie.Need-enum_told-1
 enum_told c = search rules
 
-returns-2 : tie.Need-returns-2
+returns-2 : tie.Need-returns-in_default
 returns-2 c =
-    let l = c.before.before in
-    split-not _ _ (decode-over _ l.before.if1.false (sym l.read-line.ensures ∙ c.enum_told.given.1))
+    let l = c.before in
+    split-not _ _ (decode-over _ l.if-s-gt512.false (sym l.read_line.ensures ∙ c.in_default.is))
 
-returns-3 : tie.Need-returns-3
+returns-3 : tie.Need-returns-then-value-lt1
 returns-3 c =
-    let v = c.before.before in
-    split-not _ _ (decode-none _ v.before.before.before.if1.false (first v) c.if2.true)
+    let v = c.before in
+    split-not _ _ (decode-none _ v.if-s-gt512.false (first v) c.if-value-lt1.true)
 
-returns-4 : tie.Need-returns-4
+returns-4 : tie.Need-returns-then-value-gt16
 returns-4 c =
-    let v = c.before.before.before in
-    split-not _ _ (decode-many _ v.before.before.before.if1.false (first v) c.before.if2.false c.if3.true)
+    let v = c.before.before in
+    split-not _ _ (decode-many _ v.if-s-gt512.false (first v) c.if-value-lt1.false c.if-value-gt16.true)
 
-read-words-requires : tie.Need-read-words-requires
+read-words-requires : tie.Need-read_words-requires
 read-words-requires c κs =
-    let v = c.before.before.before.before in
-    let l = v.before.before.before in (
+    let v = c.before.before.before in
+    let l = v.before.before in (
       record {
-        short = l.if1.false;
-        few = c.before.if3.false;
+        short = l.if-s-gt512.false;
+        few = c.if-value-gt16.false;
         words = λ ws d. first-words _ ws d (first v);
         first = λ ws d. first-place _ ws d (first v);
       },
-      l.before.before.requires,
+      l.requires,
     )
 
-returns-5 : tie.Need-returns-5
+returns-5 : tie.Need-returns-then-read_words
 returns-5 c =
     let w = c.before in
-    let v = w.before.before.before.before.before in
+    let v = w.before.before.before.before in
     let d =
-    decode-whole _ v.before.before.before.if1.false (first v) w.before.before.before.if2.false w.before.before.if3.false
-    (sym w.read-words.ensures.whole ∙ c.if4.true) in
-    split-whole _ _ d.1 d.2 (w.read-words.ensures.known c.if4.true _ d.1)
+    decode-whole _ v.if-s-gt512.false (first v) w.if-value-lt1.false w.if-value-gt16.false
+    (sym w.read_words.ensures.whole ∙ c.if-read_words.true) in
+    split-whole _ _ d.1 d.2 (w.read_words.ensures.known c.if-read_words.true _ d.1)
 
-returns-6 : tie.Need-returns-6
+returns-6 : tie.Need-returns
 returns-6 c =
     let w = c.before in
-    let v = w.before.before.before.before.before in
+    let v = w.before.before.before.before in
     split-not _ _
-    (decode-cut _ v.before.before.before.if1.false (first v) w.before.before.before.if2.false w.before.before.if3.false
-    (sym w.read-words.ensures.whole ∙ c.if4.false))
+    (decode-cut _ v.if-s-gt512.false (first v) w.if-value-lt1.false w.if-value-gt16.false
+    (sym w.read_words.ensures.whole ∙ c.if-read_words.false))
 
-pub split-spec : {M : Type 1} → statement M
-split-spec =
+pub split_spec : {M : Type 1} → statement M
+split_spec =
     tie.close
     (tie.spec
-    (λ c. split-not _ _ (decode-long _ c.if1.true))
+    (λ c. split-not _ _ (decode-long _ c.if-s-gt512.true))
     (λ c κs. search rules) (λ c. search rules) enum_told returns-2 returns-3 returns-4 read-words-requires returns-5 returns-6)

@@ -11,21 +11,21 @@ use Rattle.resp.proofs.word_at.Statement.{statement}
 use Rattle.resp.proofs.word_at.Tie as tie
 
 -- the span that was read, as the array has it
-module _ (c : tie.After-span-at) where
-  within : (c.span-at.result.start ≤ c.span-at.result.end) × (c.span-at.result.end ≤ length c.before.before.args.s.now)
-  within = let b = c.before.before in subst (λ (w : Span). (w.start ≤ w.end) × (w.end ≤ length b.args.s.now)) (sym c.span-at.ensures) (span-within b.requires.0 _ b.requires.1)
+module _ (c : tie.After-span_at-w) where
+  within : (c.span_at-w.result.start ≤ c.span_at-w.result.end) × (c.span_at-w.result.end ≤ length c.args.s.now)
+  within = let b = c.before.before in subst (λ (w : Span). (w.start ≤ w.end) × (w.end ≤ length b.args.s.now)) (sym c.span_at-w.ensures) (span-within b.requires.0 _ b.requires.1)
 
 returns : tie.Need-returns
 returns c =
     let r = c.before.before.before in
     let b = r.before.before in
-    ap (bytes_of b.args.s.now) r.span-at.ensures ∙ span-word b.requires.0 _ b.requires.1
+    ap (bytes_of b.args.s.now) r.span_at-w.ensures ∙ span-word b.requires.0 _ b.requires.1
 
-pub word-at-spec : {M : Type 1} → statement M
-word-at-spec =
+pub word_at_spec : {M : Type 1} → statement M
+word_at_spec =
     tie.close
     (tie.spec
-    (λ c κs. few_words c.before.requires.0 _ c.before.requires.1)
+    (λ c κs. few_words c.requires.0 _ c.requires.1)
     (λ c. search rules) (λ c. search rules)
     (λ c. omega (arith, within c.before.before))
     (λ c. omega (arith, within c.before.before))

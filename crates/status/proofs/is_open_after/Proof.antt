@@ -3,5 +3,5 @@ use mathlib.Core.Path.{refl}
 use Rattle.status.proofs.is_open_after.Statement.{statement}
 use Rattle.status.proofs.is_open_after.Tie as tie
 
-pub is-open-after-spec : {M : Type 1} → statement M
-is-open-after-spec = tie.close (tie.spec (λ c. refl))
+pub is_open_after_spec : {M : Type 1} → statement M
+is_open_after_spec = tie.close (tie.spec (λ c. refl))

@@ -7,7 +7,7 @@ use Rattle.status.proofs.is_to_write.Statement.{statement}
 use Rattle.status.proofs.is_to_write.Tie as tie
 
 returns : tie.Need-returns
-returns c = ap (λ (b : Bool). eqb c.before.before.before.args.number 0 && not b) c.same.ensures
+returns c = ap (λ (b : Bool). eqb c.args.number 0 && not b) c.same.ensures
 
-pub is-to-write-spec : {M : Type 1} → statement M
-is-to-write-spec = tie.close (tie.spec (λ c κs. search rules) returns)
+pub is_to_write_spec : {M : Type 1} → statement M
+is_to_write_spec = tie.close (tie.spec (λ c κs. search rules) returns)

@@ -15,15 +15,15 @@ module _ (n : ℕ) (other : eqb n 0 ≡ false) where
   status-refused : leb 5 n && leb n 17 ≡ false → status_of n ≡ 2
   status-refused e = rw (other, e)
 
-returns-2 : tie.Need-returns-2
+returns-2 : tie.Need-returns-then-has_reply
 returns-2 c =
-    let n = c.before.before.args.number in
-    sym (status-error n (ne_eqb n 0 c.before.if1.false) c.if2.true)
+    let n = c.args.number in
+    sym (status-error n (ne_eqb n 0 c.if-number-eq0.false) c.if-has_reply.true)
 
-returns-3 : tie.Need-returns-3
+returns-3 : tie.Need-returns
 returns-3 c =
-    let n = c.before.before.args.number in
-    sym (status-refused n (ne_eqb n 0 c.before.if1.false) c.if2.false)
+    let n = c.args.number in
+    sym (status-refused n (ne_eqb n 0 c.if-number-eq0.false) c.if-has_reply.false)
 
-pub status-of-spec : {M : Type 1} → statement M
-status-of-spec = tie.close (tie.spec (λ c. rw c.if1.true) returns-2 returns-3)
+pub status_of_spec : {M : Type 1} → statement M
+status_of_spec = tie.close (tie.spec (λ c. rw c.if-number-eq0.true) returns-2 returns-3)

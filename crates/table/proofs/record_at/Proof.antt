@@ -17,5 +17,5 @@ returns c =
     let s = c.before.before in
     is-record (form_of s.args.form) s.args.table.now s.requires.0 s.args.slot s.requires.1 (lawful-form s.args.form) _ c.slot.ensures
 
-pub record-at-spec : {M : Type 1} → statement M
-record-at-spec = tie.close (tie.spec slot-requires returns)
+pub record_at_spec : {M : Type 1} → statement M
+record_at_spec = tie.close (tie.spec slot-requires returns)

@@ -11,5 +11,5 @@ start_spec =
     tie.close
     (tie.spec
     (λ c κs. search rules)
-    (λ c. rw c.size.ensures (record { fits = omega (arith, c.before.requires) }))
-    (λ c. ap (λ (n : ℕ). c.before.args.slot * n) c.size.ensures))
+    (λ c. rw c.size.ensures (record { fits = omega (arith, c.requires) }))
+    (λ c. ap (λ (n : ℕ). c.args.slot * n) c.size.ensures))

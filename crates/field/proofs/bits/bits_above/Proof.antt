@@ -10,5 +10,5 @@ returns c =
     let a = c.args in
     ap (bit_and (a.bits / 2 ^ a.lower)) (ones-shift 8 a.n (omega arith)) ∙ and_mask (a.bits / 2 ^ a.lower) a.n
 
-pub bits-above-spec : {M : Type 1} → statement M
-bits-above-spec = tie.close (tie.spec (λ c. search rules) (λ c. search rules) (λ c. search rules) returns)
+pub bits_above_spec : {M : Type 1} → statement M
+bits_above_spec = tie.close (tie.spec (λ c. search rules) (λ c. search rules) (λ c. search rules) returns)

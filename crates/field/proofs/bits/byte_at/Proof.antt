@@ -4,11 +4,11 @@ use lib.ListN.{get_or-eq_default}
 use Rattle.field.proofs.bits.byte_at.Statement.{statement}
 use Rattle.field.proofs.bits.byte_at.Tie as tie
 
-pub byte-at-spec : {M : Type 1} → statement M
-byte-at-spec =
+pub byte_at_spec : {M : Type 1} → statement M
+byte_at_spec =
     tie.close
     (tie.spec
     (λ c. search rules)
-    (λ c. omega (arith, c.shared-slice-known.given c.before.before.args.i))
-    (λ c. (refl, omega (arith, c.shared-slice-known.given c.before.before.args.i)))
-    (λ c. (sym (get_or-eq_default c.before.args.value.now 0 c.if1.false), omega arith)))
+    (λ c. omega (arith, c.shared_slice_known-1.given c.args.i))
+    (λ c. (refl, omega (arith, c.shared_slice_known-1.given c.args.i)))
+    (λ c. (sym (get_or-eq_default c.args.value.now 0 c.if-i-value.false), omega arith)))

@@ -28,8 +28,8 @@ known c = let a = c.args in parts a.n a.lower a.bits a.byte c.requires.1 c.requi
 returns : tie.Need-returns
 returns c = (known c).sum
 
-pub patched-spec : {M : Type 1} → statement M
-patched-spec =
+pub patched_spec : {M : Type 1} → statement M
+patched_spec =
     tie.close
     (tie.spec
     (λ c. search rules)

@@ -55,24 +55,24 @@ begins f v law h =
       is = refl;
     }
 
-abbrev invariant-loop : tie.invariant-loop
+abbrev invariant-loop : tie.invariant-loop-left
 invariant-loop value i₀ from₀ left₀ bits₀ i from left bits = Reading value (reading 0 (8 * i₀ + from₀) left₀ value) i from left bits
 
-abbrev decreases-loop : tie.decreases-loop
+abbrev decreases-loop : tie.decreases-loop-left
 decreases-loop value i₀ from₀ left₀ bits₀ i from left bits = left
 
-again : tie.Need-loop-preserved invariant-loop decreases-loop
+again : tie.Need-loop-left-preserved invariant-loop decreases-loop
 again c =
     let t = c.before.before in
-    next t.before.before.loop.invariant t.taken.ensures c.before.byte_at.ensures.0 c.bits_above.ensures t.before.loop-test.true
+    next t.loop-left.invariant t.taken-n.ensures c.byte_at.ensures.0 c.bits_above.ensures t.loop-left-test.true
 
 returns : tie.Need-returns invariant-loop decreases-loop
 returns c =
     let s = c.before.before.before.before.before.before in
-    last c.before.loop.invariant (omega arith) ∙ reading-all (model_field s.args.field) s.args.value.now
+    last c.loop-left.invariant (omega arith) ∙ reading-all (model_field s.args.field) s.args.value.now
 
-pub read-bits-spec : {M : Type 1} → statement M
-read-bits-spec =
+pub read_bits_spec : {M : Type 1} → statement M
+read_bits_spec =
     tie.close
     (tie.spec
     invariant-loop
@@ -81,7 +81,7 @@ read-bits-spec =
     (λ c.
     let s = c.before.before.before.before in
     begins (model_field s.args.field) s.args.value.now s.requires (omega arith))
-    (λ c κs. c.before.loop.invariant.inside)
+    (λ c κs. c.loop-left.invariant.inside)
     (λ c. omega arith)
     (λ c κs. tt)
     (λ c. omega arith)

@@ -3,5 +3,5 @@ use Rattle.std.proofs.Common.{arith}
 use Rattle.field.proofs.bits.taken.Statement.{statement}
 use Rattle.field.proofs.bits.taken.Tie as tie
 
-pub taken-spec : {M : Type 1} → statement M
-taken-spec = tie.close (tie.spec (λ c. omega arith) (λ c. omega arith) (λ c. omega arith))
+pub taken_spec : {M : Type 1} → statement M
+taken_spec = tie.close (tie.spec (λ c. omega arith) (λ c. omega arith) (λ c. omega arith))

@@ -38,21 +38,21 @@ module _ {v₀ v : List ℕ} {whole : List Bool} {x i from left n p b : ℕ} (r 
         is = step;
       }
 
-abbrev invariant-loop : tie.invariant-loop
+abbrev invariant-loop : tie.invariant-loop-left
 invariant-loop value₀ bits i₀ from₀ left₀ value i from left = Writing value₀ (writing (8 * i₀ + from₀) left₀ bits value₀) bits value i from left
 
-abbrev decreases-loop : tie.decreases-loop
+abbrev decreases-loop : tie.decreases-loop-left
 decreases-loop value₀ bits i₀ from₀ left₀ value i from left = left
 
 returns : tie.Need-returns invariant-loop decreases-loop
 returns c =
     let s = c.before.before.before.before.before.before in
     let f = model_field s.args.field in
-    let i = c.before.loop.invariant in
-    writing-all f s.args.bits s.args.value.now c.before.loop.value _ (ends f.type s.requires.0).wide s.requires.1 i.bytes (last i (omega arith))
+    let i = c.loop-left.invariant in
+    writing-all f s.args.bits s.args.value.now c.loop-left.value _ (ends f.type s.requires.0).wide s.requires.1 i.bytes (last i (omega arith))
 
-pub write-bits-spec : {M : Type 1} → statement M
-write-bits-spec =
+pub write_bits_spec : {M : Type 1} → statement M
+write_bits_spec =
     tie.close
     (tie.spec
     invariant-loop
@@ -65,10 +65,10 @@ write-bits-spec =
       few = (ends (model_field s.args.field).type s.requires.0).narrow;
       room = omega (arith, s.requires.1);
       same = refl;
-      bytes = λ i. (c.before.before.before.slice-known.given i).fits;
+      bytes = λ i. (c.slice_known-1.given i).fits;
       is = refl;
     })
-    (λ c κs. c.before.loop.invariant.inside)
+    (λ c κs. c.loop-left.invariant.inside)
     (λ c. omega arith)
     (λ c. omega arith)
     (λ c. omega arith)
@@ -80,6 +80,6 @@ write-bits-spec =
     (λ c. omega arith)
     (λ c.
     let t = c.before.before.before in
-    next t.before.before.loop.invariant t.taken.ensures c.before.bits_above.ensures c.patched.ensures c.patched.type-inv t.before.loop-test.true)
-    (λ c. c.before.loop.invariant.same)
+    next t.loop-left.invariant t.taken-n.ensures c.bits_above.ensures c.patched.ensures c.patched.type_inv t.loop-left-test.true)
+    (λ c. c.loop-left.invariant.same)
     returns)

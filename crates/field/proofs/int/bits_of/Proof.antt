@@ -13,8 +13,8 @@ returns : tie.Need-returns
 returns c =
     let s = c.before.before in
     let a = s.args in
-    rw (c.before.word.ensures, c.mask.ensures, back_is s.ranges.z)
+    rw (c.word.ensures, c.mask.ensures, back_is s.ranges.z)
     (and_mask (modulo a.z (2 ^ 64)) a.int.width ∙ word_low a.z a.int.width (ends (model_int a.int) s.requires).narrow)
 
-pub bits-of-spec : {M : Type 1} → statement M
-bits-of-spec = tie.close (tie.spec (λ c κs. search rules) (λ c κs. search rules) returns)
+pub bits_of_spec : {M : Type 1} → statement M
+bits_of_spec = tie.close (tie.spec (λ c κs. search rules) (λ c κs. search rules) returns)

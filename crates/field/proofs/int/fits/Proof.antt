@@ -8,7 +8,7 @@ use Rattle.field.proofs.int.fits.Tie as tie
 returns : tie.Need-returns
 returns c =
     let l = c.before in
-    rw (back-result l.least.type-inv l.least.ensures, back-result c.greatest.type-inv c.greatest.ensures, back_is l.before.ranges.z)
+    rw (back-result l.least.type_inv l.least.ensures, back-result c.greatest.type_inv c.greatest.ensures, back_is l.ranges.z)
 
-pub fits-spec : {M : Type 1} → statement M
-fits-spec = tie.close (tie.spec (λ c κs. search rules) (λ c κs. search rules) returns)
+pub fits_spec : {M : Type 1} → statement M
+fits_spec = tie.close (tie.spec (λ c κs. search rules) (λ c κs. search rules) returns)

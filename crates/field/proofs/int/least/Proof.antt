@@ -9,23 +9,23 @@ use Rattle.field.proofs.int.least.Tie as tie
 
 module _ (c : tie.After-greatest) where
   abbrev k : IntType
-  k = model_int c.before.before.args.int
+  k = model_int c.args.int
 
   greatest-is : back c.greatest.result ≡ greatest k
-  greatest-is = back-result c.greatest.type-inv c.greatest.ensures
+  greatest-is = back-result c.greatest.type_inv c.greatest.ensures
 
   minus : SFits w64 (pos 0 -ℤ greatest k)
-  minus = minus-fits k c.before.before.requires c.before.if1.true
+  minus = minus-fits k c.requires c.if-int.true
 
   whole : pos 0 -ℤ greatest k -ℤ pos 1 ≡ least k
-  whole = least-is k c.before.before.requires c.before.if1.true
+  whole = least-is k c.requires c.if-int.true
 
-pub least-spec : {M : Type 1} → statement M
-least-spec =
+pub least_spec : {M : Type 1} → statement M
+least_spec =
     tie.close
     (tie.spec
     (λ c κs. search rules)
     (λ c. rw (greatest-is c) (minus c))
-    (λ c. rw (greatest-is c, back_is (minus c), whole c) (least_fits (k c) c.before.before.requires))
-    (λ c. rw (greatest-is c, back_is (minus c), whole c) (back_is (least_fits (k c) c.before.before.requires)))
-    (λ c. rw c.if1.false))
+    (λ c. rw (greatest-is c, back_is (minus c), whole c) (least_fits (k c) c.requires))
+    (λ c. rw (greatest-is c, back_is (minus c), whole c) (back_is (least_fits (k c) c.requires)))
+    (λ c. rw c.if-int.false))

@@ -9,11 +9,11 @@ use Rattle.field.proofs.int.mask.Tie as tie
 known : (c : tie.Start) → Ends (model_int c.args.int)
 known c = ends (model_int c.args.int) c.requires
 
-pub mask-spec : {M : Type 1} → statement M
-mask-spec =
+pub mask_spec : {M : Type 1} → statement M
+mask_spec =
     tie.close
     (tie.spec
     (λ c. (known c.before).narrow)
     (λ c. search rules)
     (λ c. omega (arith, (known c.before).wide))
-    (λ c. ones-shift 64 c.before.args.int.width (known c.before).narrow))
+    (λ c. ones-shift 64 c.args.int.width (known c.before).narrow))

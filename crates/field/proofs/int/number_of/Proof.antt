@@ -16,31 +16,31 @@ known : (c : tie.Start) → Ends (type c)
 known c = ends (type c) c.requires.0
 
 -- the half
-half_is : (c : tie.Then1) → let k = type c.before in 1 * 2 ^ (k.width - 1) % 2 ^ 64 ≡ negatives k
-half_is c = let b = known c.before in one_shifted ((type c.before).width - 1) (omega arith) ∙ rw c.if1.true
+half_is : (c : tie.Then-int) → let k = type c.before in 1 * 2 ^ (k.width - 1) % 2 ^ 64 ≡ negatives k
+half_is c = let b = known c.before in one_shifted ((type c.before).width - 1) (omega arith) ∙ rw c.if-int.true
 
-doubled : (c : tie.Then1) → let k = type c.before in modulus k ≡ 2 * negatives k
-doubled c = twice (type c.before) c.before.requires.0 c.if1.true
+doubled : (c : tie.Then-int) → let k = type c.before in modulus k ≡ 2 * negatives k
+doubled c = twice (type c.before) c.requires.0 c.if-int.true
 
 -- from the half on
-module _ (c : tie.Then2) where
-  abbrev s : tie.Then1
+module _ (c : tie.Then-half-bits) where
+  abbrev s : tie.Then-int
   s = c.before.before
 
   abbrev k : IntType
   k = type s.before
 
   abbrev x : ℕ
-  x = s.before.args.bits
+  x = s.args.bits
 
   above : negatives k ≤ x
-  above = omega (arith, c.if2.true, half_is s)
+  above = omega (arith, c.if-half-bits.true, half_is s)
 
   rest : SFits w64 (pos (x - negatives k))
-  rest = record { sfits = omega (arith, doubled s, (known s.before).bottom, s.before.pre.1) }
+  rest = record { sfits = omega (arith, doubled s, (known s.before).bottom, s.requires.1) }
 
   fits : SFits w64 (meaning k x)
-  fits = meaning-word k s.before.pre.0 x s.before.pre.1
+  fits = meaning-word k s.requires.0 x s.requires.1
 
 -- what the machine adds
 sum_is : (c : tie.After-least) → let t = c.before in
@@ -48,22 +48,22 @@ sum_is : (c : tie.After-least) → let t = c.before in
 sum_is c =
     let t = c.before in
     let b = (s t).before in
-    rw (half_is (s t), to_z_pos w64 (rest t).sfits, back-result c.least.type-inv c.least.ensures)
-    (sym (meaning-signed (k t) (x t) (known b).wide (s t).if1.true (above t) b.pre.1))
+    rw (half_is (s t), to_z_pos w64 (rest t).sfits, back-result c.least.type_inv c.least.ensures)
+    (sym (meaning-signed (k t) (x t) (known b).wide (s t).if-int.true (above t) b.requires.1))
 
 -- below the half, or of an unsigned type
-below : (c : tie.Joined1) → let k = type c.before in c.before.args.bits + negatives k < modulus k
+below : (c : tie.Joined-int) → let k = type c.before in c.args.bits + negatives k < modulus k
 below c =
     ⊎_elim
-    (λ w. let t : tie.Then1 = record { before = c.before; if1 = w.0 } in omega (arith, w.2.left, half_is t, doubled t))
-    (λ w. omega (arith, c.before.requires.1, unsigned-none (type c.before) w.left))
-    c.if1.branch
+    (λ w. let t : tie.Then-int = record { before = c.before; if-int = w.if-int } in omega (arith, w.if-half-bits.false, half_is t, doubled t))
+    (λ w. omega (arith, c.requires.1, unsigned-none (type c.before) w.if-int.false))
+    c.if-int.branch-raw
 
-below-fits : (c : tie.Joined1) → SFits w64 (pos c.before.args.bits)
+below-fits : (c : tie.Joined-int) → SFits w64 (pos c.args.bits)
 below-fits c = record { sfits = omega (arith, below c, (known c.before).top) }
 
-pub number-of-spec : {M : Type 1} → statement M
-number-of-spec =
+pub number_of_spec : {M : Type 1} → statement M
+number_of_spec =
     tie.close
     (tie.spec
     (λ c. (known c.before.before).wide)
@@ -74,4 +74,4 @@ number-of-spec =
     (λ c. rw (sum_is c) (fits c.before))
     (λ c. rw (sum_is c) (back_is (fits c.before)))
     below-fits
-    (λ c. to_z_pos w64 (below-fits c).sfits ∙ sym (meaning-pos (type c.before) c.before.args.bits (below c))))
+    (λ c. to_z_pos w64 (below-fits c).sfits ∙ sym (meaning-pos (type c.before) c.args.bits (below c))))

@@ -18,20 +18,20 @@ module _ (c : tie.Start) where
   stored_is : {m : Mode} → c.args.mode ≡ m → stored m (back c.args.by) ≡ stored c.args.mode c.args.by
   stored_is e = λ i. stored (sym e i) (back_is c.ranges.by i)
 
-returns : tie.Need-returns
+returns : tie.Need-returns-in-Wrap
 unfolding overflow
-returns c = ap some (back-result c.wrapped.type-inv c.wrapped.ensures) ∙ stored_is c.before.before.before c.before.enum_told.given.1
+returns c = ap some (back-result c.wrapped.type_inv c.wrapped.ensures) ∙ stored_is c.before.before c.in-Wrap.is
 
-returns-2 : tie.Need-returns-2
+returns-2 : tie.Need-returns-in-Sat
 unfolding overflow
-returns-2 c = ap some (back-result c.saturated.type-inv c.saturated.ensures) ∙ stored_is c.before.before.before c.before.enum-told2.given.1
+returns-2 c = ap some (back-result c.saturated.type_inv c.saturated.ensures) ∙ stored_is c.before.before c.in-Sat.is
 
-returns-3 : tie.Need-returns-3
+returns-3 : tie.Need-returns-in-Fail
 unfolding overflow
-returns-3 c = c.unless-out.ensures ∙ stored_is c.before.before.before c.before.enum-told3.given.1
+returns-3 c = c.unless_out.ensures ∙ stored_is c.before.before c.in-Fail.is
 
-pub increase-spec : {M : Type 1} → statement M
-increase-spec =
+pub increase_spec : {M : Type 1} → statement M
+increase_spec =
     tie.close
     (tie.spec
     (λ c. search rules)

@@ -11,7 +11,7 @@ use Rattle.field.proofs.Sides.{side-told}
 use Rattle.field.proofs.overflow.saturated.Statement.{statement}
 use Rattle.field.proofs.overflow.saturated.Tie as tie
 
-module _ (c : tie.After-side-of) where
+module _ (c : tie.After-side_of) where
   abbrev s : tie.Start
   s = c.before.before
 
@@ -19,11 +19,11 @@ module _ (c : tie.After-side-of) where
   k = model_int s.args.int
 
   -- what is answered where the side is x
-  side-is : {x : Side} → c.side-of.result ≡ x → saturated k (model_side x) ≡ saturated k (side k (meaning k s.args.bits +ℤ s.args.by))
-  side-is = side-told k (saturated k) c.side-of.ensures (back-result c.before.number_of_lem.type-inv c.before.number_of_lem.ensures) (back_is s.fits.by)
+  side-is : {x : Side} → c.side_of.result ≡ x → saturated k (model_side x) ≡ saturated k (side k (meaning k s.args.bits +ℤ s.args.by))
+  side-is = side-told k (saturated k) c.side_of.ensures (back-result c.number_of.type_inv c.number_of.ensures) (back_is s.ranges.by)
 
-pub saturated-spec : {M : Type 1} → statement M
-saturated-spec =
+pub saturated_spec : {M : Type 1} → statement M
+saturated_spec =
     tie.close
     (tie.spec
     (λ c κs. search rules)
@@ -33,6 +33,6 @@ saturated-spec =
     (λ c. search rules)
     (λ c κs. search rules)
     (λ c. search rules)
-    (λ c. back-result c.least.type-inv c.least.ensures ∙ side-is c.before.before.before c.before.enum_told.given.1)
-    (λ c. back-result c.greatest.type-inv c.greatest.ensures ∙ side-is c.before.before.before c.before.enum-told2.given.1)
-    (λ c. back-result c.known-told.given.0.1 (side-is c.before.before.before c.before.z.given.1)))
+    (λ c. back-result c.least.type_inv c.least.ensures ∙ side-is c.before.before c.in-Under.is)
+    (λ c. back-result c.greatest.type_inv c.greatest.ensures ∙ side-is c.before.before c.in-Over.is)
+    (λ c. back-result c.in-Within.known_told-1-own.given.0.1 (side-is c.before c.in-Within.is)))

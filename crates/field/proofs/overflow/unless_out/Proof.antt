@@ -12,7 +12,7 @@ use Rattle.field.proofs.Sides.{side-told}
 use Rattle.field.proofs.overflow.unless_out.Statement.{statement}
 use Rattle.field.proofs.overflow.unless_out.Tie as tie
 
-module _ (c : tie.After-side-of) where
+module _ (c : tie.After-side_of) where
   abbrev s : tie.Start
   s = c.before.before
 
@@ -20,11 +20,11 @@ module _ (c : tie.After-side-of) where
   k = model_int s.args.int
 
   -- what is answered where the side is x
-  side-is : {x : Side} → c.side-of.result ≡ x → unless_out (model_side x) ≡ unless_out (side k (meaning k s.args.bits +ℤ s.args.by))
-  side-is = side-told k unless_out c.side-of.ensures (back-result c.before.number_of_lem.type-inv c.before.number_of_lem.ensures) (back_is s.fits.by)
+  side-is : {x : Side} → c.side_of.result ≡ x → unless_out (model_side x) ≡ unless_out (side k (meaning k s.args.bits +ℤ s.args.by))
+  side-is = side-told k unless_out c.side_of.ensures (back-result c.number_of.type_inv c.number_of.ensures) (back_is s.ranges.by)
 
-pub unless-out-spec : {M : Type 1} → statement M
-unless-out-spec =
+pub unless_out_spec : {M : Type 1} → statement M
+unless_out_spec =
     tie.close
     (tie.spec
     (λ c κs. search rules)
@@ -32,6 +32,6 @@ unless-out-spec =
     (λ c. search rules)
     (λ c. search rules)
     (λ c. search rules)
-    (λ c. side-is c.before.before c.enum_told.given.1)
-    (λ c. side-is c.before.before c.enum-told2.given.1)
-    (λ c. ap some (back_is (record { sfits = c.known-told.given.0.1 })) ∙ side-is c.before.before.before c.before.z.given.1))
+    (λ c. side-is c.before c.in-Under.is)
+    (λ c. side-is c.before c.in-Over.is)
+    (λ c. ap some (back_is (record { sfits = c.in-Within.known_told-1-own.given.0.1 })) ∙ side-is c.before c.in-Within.is))

@@ -9,7 +9,7 @@ use Rattle.field.proofs.Words.{back-result, wrapped-bits}
 use Rattle.field.proofs.overflow.wrapped.Statement.{statement}
 use Rattle.field.proofs.overflow.wrapped.Tie as tie
 
-module _ (c : tie.After-mask) where
+module _ (c : tie.After-mask-mask) where
   abbrev s : tie.Start
   s = c.before.before.before
 
@@ -20,21 +20,21 @@ module _ (c : tie.After-mask) where
   abbrev sum : ℤ
   sum = meaning k s.args.bits +ℤ s.args.by
 
-  kept : bit_and c.before.wrapping-add-u64.result c.mask.result ≡ modulo sum (modulus k)
+  kept : bit_and c.wrapping_add_u64-sum.result c.mask-mask.result ≡ modulo sum (modulus k)
   kept =
-      wrapped-bits k s.pre.0 s.args.bits s.args.by s.pre.1
-      (c.before.before.word.ensures ∙ ap (λ (z : ℤ). modulo z (2 ^ 64)) (back_is s.fits.by))
-      c.before.wrapping-add-u64.ensures c.mask.ensures
+      wrapped-bits k s.requires.0 s.args.bits s.args.by s.requires.1
+      (c.word.ensures ∙ ap (λ (z : ℤ). modulo z (2 ^ 64)) (back_is s.ranges.by))
+      c.wrapping_add_u64-sum.ensures c.mask-mask.ensures
 
-  kept-lt : bit_and c.before.wrapping-add-u64.result c.mask.result < modulus k
+  kept-lt : bit_and c.wrapping_add_u64-sum.result c.mask-mask.result < modulus k
   kept-lt = subst (λ (x : ℕ). x < modulus k) (sym kept) (modulo-lt sum (modulus k) (pow_pos k.width))
 
-pub wrapped-spec : {M : Type 1} → statement M
-wrapped-spec =
+pub wrapped_spec : {M : Type 1} → statement M
+wrapped_spec =
     tie.close
     (tie.spec
     (λ c κs. search rules)
     (λ c κs. search rules)
     (λ c κs. search rules)
     (λ c κs. ((s c).requires.0, kept-lt c))
-    (λ c. back-result c.number_of_lem.type-inv (c.number_of_lem.ensures ∙ ap (meaning (k c.before)) (kept c.before))))
+    (λ c. back-result c.number_of.type_inv (c.number_of.ensures ∙ ap (meaning (k c.before)) (kept c.before))))

@@ -6,10 +6,10 @@ use Rattle.index.proofs.hash.mix.Tie as tie
 
 returns : tie.Need-returns
 unfolding mixed
-returns c = rw (c.with-word2.ensures, c.before.with-word.ensures)
+returns c = rw (c.with_word-all.ensures, c.with_word.ensures)
 
-pub mix-spec : {M : Type 1} → statement M
-mix-spec =
+pub mix_spec : {M : Type 1} → statement M
+mix_spec =
     tie.close
     (tie.spec
     (λ c κs. search rules) (λ c κs. search rules) (λ c. search rules) (λ c. search rules) returns)

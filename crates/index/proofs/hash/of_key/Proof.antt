@@ -5,10 +5,10 @@ use Rattle.index.proofs.hash.of_key.Statement.{statement}
 use Rattle.index.proofs.hash.of_key.Tie as tie
 
 returns : tie.Need-returns
-returns c = c.mix.ensures ∙ (λ i. mixed (c.before.before.before.word.ensures i) (c.before.before.word2.ensures i) (c.before.word3.ensures i))
+returns c = c.mix.ensures ∙ (λ i. mixed (c.word.ensures i) (c.word-2.ensures i) (c.word-3.ensures i))
 
-pub of-key-spec : {M : Type 1} → statement M
-of-key-spec =
+pub of_key_spec : {M : Type 1} → statement M
+of_key_spec =
     tie.close
     (tie.spec
     (λ c κs. search rules) (λ c κs. search rules) (λ c κs. search rules) (λ c κs. search rules) returns)

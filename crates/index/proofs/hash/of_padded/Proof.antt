@@ -5,10 +5,10 @@ use Rattle.index.proofs.hash.of_padded.Statement.{statement}
 use Rattle.index.proofs.hash.of_padded.Tie as tie
 
 returns : tie.Need-returns
-returns c = c.mix.ensures ∙ (λ i. mixed (c.before.before.before.get8.ensures i) (c.before.before.get82.ensures i) (c.before.get83.ensures i))
+returns c = c.mix.ensures ∙ (λ i. mixed (c.get8.ensures i) (c.get8-2.ensures i) (c.get8-3.ensures i))
 
-pub of-padded-spec : {M : Type 1} → statement M
-of-padded-spec =
+pub of_padded_spec : {M : Type 1} → statement M
+of_padded_spec =
     tie.close
     (tie.spec
     (λ c κs. search rules) (λ c κs. search rules) (λ c κs. search rules) (λ c κs. search rules) returns)

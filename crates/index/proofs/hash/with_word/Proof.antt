@@ -16,10 +16,10 @@ returns : tie.Need-returns
 unfolding with_word
 returns c =
     let s = c.before.before in
-    c.wrapping-add-u642.ensures ∙ ap (λ (n : ℕ). (n + s.args.word) % 2 ^ 64) c.before.wrapping-add-u64.ensures ∙ nine s.args.x s.args.word
+    c.wrapping_add_u64.ensures ∙ ap (λ (n : ℕ). (n + s.args.word) % 2 ^ 64) c.wrapping_add_u64-nine.ensures ∙ nine s.args.x s.args.word
 
-pub with-word-spec : {M : Type 1} → statement M
-with-word-spec =
+pub with_word_spec : {M : Type 1} → statement M
+with_word_spec =
     tie.close
     (tie.spec
     (λ c. search rules) (λ c κs. search rules) (λ c κs. search rules) returns)

@@ -9,8 +9,8 @@ use borrow.Author.Rules.{rules}
 use Rattle.record.proofs.fields.has_key.Statement.{statement}
 use Rattle.record.proofs.fields.has_key.Tie as tie
 
-is-used : (c : tie.Else1) → is_used c.before.before.before.before.args.r.now ≡ true
-is-used c = sym c.before.in_use.ensures ∙ not-false _ c.if1.false
+is-used : (c : tie.Else-not-in_use) → is_used c.args.r.now ≡ true
+is-used c = sym c.in_use.ensures ∙ c.if-not-in_use.false
 
 key-requires : tie.Need-key-requires
 key-requires c κs =
@@ -18,15 +18,15 @@ key-requires c κs =
     let u = s.requires in
     record { form = u.form; lawful = u.lawful; is = used-in-use u.form s.args.r.now u.is (is-used c) }
 
-returns-2 : tie.Need-returns-2
+returns-2 : tie.Need-returns
 returns-2 c =
     let s = c.before.before.before.before.before.before in
-    c.same.ensures ∙ ap (same s.args.key.now) c.before.key.ensures ∙ rw (is-used c.before.before)
+    c.same.ensures ∙ ap (same s.args.key.now) c.key.ensures ∙ rw (is-used c.before.before)
 
-pub has-key-spec : {M : Type 1} → statement M
-has-key-spec =
+pub has_key_spec : {M : Type 1} → statement M
+has_key_spec =
     tie.close
     (tie.spec
     (λ c κs. search rules)
-    (λ c. rw (sym c.before.in_use.ensures ∙ not-true _ c.if1.true))
+    (λ c. rw (sym c.in_use.ensures ∙ c.if-not-in_use.true))
     key-requires (λ c κs. search rules) returns-2)

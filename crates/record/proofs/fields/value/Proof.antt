@@ -12,8 +12,8 @@ value_spec =
     tie.close
     (tie.spec
     (λ c. search rules)
-    (λ c. omega (arith, in-use-head c.before.requires.form c.before.args.r.now c.before.requires.is))
-    (λ c. omega (arith, in-use-head c.before.requires.form c.before.args.r.now c.before.requires.is))
+    (λ c. omega (arith, in-use-head c.requires.form c.args.r.now c.requires.is))
+    (λ c. omega (arith, in-use-head c.requires.form c.args.r.now c.requires.is))
     (λ c. search rules) (λ c. search rules)
-    (λ c. omega (arith, in-use-head c.before.requires.form c.before.args.r.now c.before.requires.is))
-    (λ c. let b = c.before.before.args.r.now in part-is 48 (get_or b 2 0) b))
+    (λ c. omega (arith, in-use-head c.requires.form c.args.r.now c.requires.is))
+    (λ c. let b = c.args.r.now in part-is 48 (get_or b 2 0) b))

@@ -39,21 +39,21 @@ module _ (s : List ℕ) (size : length s ≡ 24) where
       ∙ ap (λ t. is_zero (part n 8 s) && t) (sym (zeros_from-within m 16 8 s (omega arith) (omega arith)))
       ∙ sym (zeros_from-within n m 8 s (omega arith) (omega arith)))
 
-returns : tie.Need-returns
+returns : tie.Need-returns-then-n-gt16
 returns c =
-    let a = c.before.before.before.args in
-    long a.key.now (omega arith) a.n c.before.get8.result (λ i. (c.before.before.shared-slice-known.given i).fits) (omega arith) c.before.get8.ensures
+    let a = c.args in
+    long a.key.now (omega arith) a.n c.get8-last.result (λ i. (c.shared_slice_known-1.given i).fits) (omega arith) c.get8-last.ensures
 
-returns-2 : tie.Need-returns-2
+returns-2 : tie.Need-returns
 returns-2 c =
     let m = c.before in
     let g = m.before.before.before in
-    let a = g.before.before.args in
-    short a.key.now (omega arith) a.n m.before.get82.result c.get83.result g.get8.result (omega arith) m.before.get82.ensures
-    (c.get83.ensures ∙ ap (λ (k : ℕ). from_little_endian (part k 8 a.key.now)) m.max.ensures) g.get8.ensures
+    let a = g.args in
+    short a.key.now (omega arith) a.n m.get8.result c.get8-2.result g.get8-last.result (omega arith) m.get8.ensures
+    (c.get8-2.ensures ∙ ap (λ (k : ℕ). from_little_endian (part k 8 a.key.now)) m.max.ensures) g.get8-last.ensures
 
-pub bits-after-key-spec : {M : Type 1} → statement M
-bits-after-key-spec =
+pub bits_after_key_spec : {M : Type 1} → statement M
+bits_after_key_spec =
     tie.close
     (tie.spec
     (λ c κs. search rules) (λ c. search rules) (λ c. search rules) (λ c. search rules) returns

@@ -21,14 +21,14 @@ module _ (s : tie.Start) (f : Form) (told : s.args.form ≡ f) where
   all_left : zeros_from s.args.n (part 48 (record_size (form_of f) - 48) s.args.r.now) ≡ zeros_from s.args.n (part 48 (length s.args.r.now - 48) s.args.r.now)
   all_left = ap (λ (m : ℕ). zeros_from s.args.n (part 48 (m - 48) s.args.r.now)) (sym lengths.1)
 
-of128 : (c : tie.After-enum-told) → (c.before.before.before.args.n ≤ 64) × (length c.before.before.before.args.r.now ≡ 128)
-of128 c = lengths c.before.before.before Of128 c.enum_told.given.1
+of128 : (c : tie.In-Of128) → (c.args.n ≤ 64) × (length c.args.r.now ≡ 128)
+of128 c = lengths c.before.before Of128 c.in-Of128.is
 
-of192 : (c : tie.After-enum-told2) → (c.before.before.before.args.n ≤ 128) × (length c.before.before.before.args.r.now ≡ 192)
-of192 c = lengths c.before.before.before Of192 c.enum-told2.given.1
+of192 : (c : tie.In-Of192) → (c.args.n ≤ 128) × (length c.args.r.now ≡ 192)
+of192 c = lengths c.before.before Of192 c.in-Of192.is
 
-pub bits-after-value-spec : {M : Type 1} → statement M
-bits-after-value-spec =
+pub bits_after_value_spec : {M : Type 1} → statement M
+bits_after_value_spec =
     tie.close
     (tie.spec
     (λ c. search rules) (λ c. search rules) (λ c. search rules)
@@ -37,5 +37,5 @@ bits-after-value-spec =
     (λ c. search rules) (λ c. search rules) (λ c. search rules)
     (λ c. let f = of192 c in omega arith)
     (λ c κs. let f = of192 c.before in (f.0, refl, simp (length-take, length-drop) (omega arith)))
-    (λ c. c.bits-from.ensures ∙ all_left c.before.before.before.before.before Of128 c.before.before.enum_told.given.1)
-    (λ c. c.bits-from2.ensures ∙ all_left c.before.before.before.before.before Of192 c.before.before.enum-told2.given.1))
+    (λ c. c.bits_from.ensures ∙ all_left c.before.before.before.before Of128 c.in-Of128.is)
+    (λ c. c.bits_from-in-Of192.ensures ∙ all_left c.before.before.before.before Of192 c.in-Of192.is))

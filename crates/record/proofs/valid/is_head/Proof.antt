@@ -8,14 +8,14 @@ use Rattle.record.proofs.valid.is_head.Tie as tie
 
 returns : tie.Need-returns
 unfolding is_head
-returns c = rw (c.before.before.before.before.before.limit.ensures, c.before.before.before.mark.ensures, c.before.before.get8.ensures, c.before.get82.ensures, and-true)
+returns c = rw (c.limit.ensures, c.mark.ensures, c.get8-version_fits.ensures, c.get8-expiry_fits.ensures, and-true)
 
-pub is-head-spec : {M : Type 1} → statement M
-is-head-spec =
+pub is_head_spec : {M : Type 1} → statement M
+is_head_spec =
     tie.close
     (tie.spec
     (λ c. search rules)
-    (λ c. omega (arith, c.shared-slice-known2.given 1))
+    (λ c. omega (arith, c.shared_slice_known-2-1.given 1))
     (λ c. search rules)
-    (λ c. omega (arith, c.before.shared-slice-known2.given 2))
+    (λ c. omega (arith, c.shared_slice_known-2-1.given 2))
     (λ c κs. search rules) (λ c. search rules) (λ c κs. search rules) (λ c κs. search rules) (λ c κs. search rules) (λ c. search rules) returns)

@@ -9,17 +9,17 @@ use borrow.Author.Rules.{rules}
 use Rattle.record.proofs.valid.readable.Statement.{statement}
 use Rattle.record.proofs.valid.readable.Tie as tie
 
-returns : tie.Need-returns
+returns : tie.Need-returns-then-r-eq0
 returns c =
     let s = c.before.before.before.before in
     let b = s.args.r.now in
-    c.is_zero.ensures ∙ ap (λ (n : ℕ). same b (replicate n 0)) s.requires ∙ sym (readable-zero (form_of s.args.form) b c.before.if1.true)
+    c.is_zero.ensures ∙ ap (λ (n : ℕ). same b (replicate n 0)) s.requires ∙ sym (readable-zero (form_of s.args.form) b c.if-r-eq0.true)
 
-returns-2 : tie.Need-returns-2
-returns-2 c = let s = c.before.before.before.before in c.is-record.ensures ∙ sym (readable-other (form_of s.args.form) s.args.r.now c.before.if1.false)
+returns-2 : tie.Need-returns
+returns-2 c = let s = c.before.before.before.before in c.is_record.ensures ∙ sym (readable-other (form_of s.args.form) s.args.r.now c.if-r-eq0.false)
 
-pub readable-spec : {M : Type 1} → statement M
-readable-spec =
+pub readable_spec : {M : Type 1} → statement M
+readable_spec =
     tie.close
     (tie.spec
     (λ c. search rules) (λ c κs. search rules) returns (λ c κs. search rules) returns-2)

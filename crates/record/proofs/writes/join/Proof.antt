@@ -17,26 +17,26 @@ use Rattle.record.proofs.writes.join.Tie as tie
 abbrev fits : (s : tie.Start) → (get_or s.args.r.now 2 0 + length s.args.s.now ≤ 128) × (48 + (get_or s.args.r.now 2 0 + length s.args.s.now) + 16 ≤ length s.args.r.now)
 fits s = joined-fits s.args.r.now s.args.s.now s.requires.0 s.requires.1
 
-join-text-requires : tie.Need-join-text-requires
+join-text-requires : tie.Need-join_text-requires
 join-text-requires c κs =
     let s = c.before.before.before.before in
     let h = fits s in
     omega (arith, h.0, h.1, length_part 48 (length s.args.r.now - 48) s.args.r.now (omega (arith, h.1)))
 
-put-attributes-requires : tie.Need-put-attributes-requires
+put-attributes-requires : tie.Need-put_attributes-requires
 put-attributes-requires c κs =
     let joined = c.before.before.before in
     let s = joined.before.before.before.before.before in
     let b = s.args.r.now in
     let h = fits s in
-    simp length-set (omega (arith, h.1, same_len_mid 48 (length b - 48) b joined.join-text.new.0 joined.join-text.auto.0))
+    simp length-set (omega (arith, h.1, same_len_mid 48 (length b - 48) b joined.join_text.new.buf joined.join_text.auto.buf))
 
-same_length : tie.Need-same-length
+same_length : tie.Need-shape_of-r
 same_length c =
     let put = c.before.before in
     let joined = put.before.before.before.before in
-    let b = joined.before.before.before.before.before.args.r.now in
-    (simp length-set at put.put-attributes.auto.0) ∙ same_len_mid 48 (length b - 48) b joined.join-text.new.0 joined.join-text.auto.0
+    let b = joined.args.r.now in
+    (simp length-set at put.put_attributes.auto.r) ∙ same_len_mid 48 (length b - 48) b joined.join_text.new.buf joined.join_text.auto.buf
 
 returns : tie.Need-returns
 returns c =
@@ -46,12 +46,12 @@ returns c =
     let s = joined.before.before.before.before.before in
     let b = s.args.r.now in
     let h = in-use-record f b u in
-    put.put-attributes.ensures
-    ∙ joined-written f (fields b) h.kept s.args.front s.args.attributes b (get_or b 2 0) s.args.s.now joined.join-text.new.0
-    (omega (arith, u.size)) h.bytes (value-length f b h) (omega (arith, u.size, s.requires.1)) joined.join-text.ensures
+    put.put_attributes.ensures
+    ∙ joined-written f (fields b) h.kept s.args.front s.args.attributes b (get_or b 2 0) s.args.s.now joined.join_text.new.buf
+    (omega (arith, u.size)) h.bytes (value-length f b h) (omega (arith, u.size, s.requires.1)) joined.join_text.ensures
 
-pub join-spec : {M : Type 1} → statement M
-join-spec =
+pub join_spec : {M : Type 1} → statement M
+join_spec =
     tie.close
     (tie.spec
     (λ c. search rules)

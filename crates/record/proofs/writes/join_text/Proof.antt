@@ -38,23 +38,23 @@ module _ (n : ℕ) (s b : List ℕ) (fits : n + length s ≤ length b) where
   at_back false e = ap (λ (l : List ℕ). take n b ++ (s ++ l)) (rest false (n + length s) refl) ∙ sym (append_assoc (take n b) s _)
   at_back true e = never true refl e
 
-returns : tie.Need-returns
+returns : tie.Need-returns-then-front
 returns c =
     let copied = c.before.before in
     let moved = copied.before.before.before.before in
     let s = moved.before.before.before.before.before in
     let a = s.args in
-    rw (copied.copy.ensures, moved.move_up.ensures) (at_front a.n a.s.now a.buf.now s.requires a.front moved.before.before.if1.true)
+    rw (copied.copy.ensures, moved.move_up.ensures) (at_front a.n a.s.now a.buf.now s.requires a.front moved.if-front.true)
 
-returns-2 : tie.Need-returns-2
+returns-2 : tie.Need-returns
 returns-2 c =
     let copied = c.before.before in
     let s = copied.before.before.before.before.before in
     let a = s.args in
-    rw copied.copy2.ensures (at_back a.n a.s.now a.buf.now s.requires a.front copied.before.before.if1.false)
+    rw copied.copy-2.ensures (at_back a.n a.s.now a.buf.now s.requires a.front copied.if-front.false)
 
-pub join-text-spec : {M : Type 1} → statement M
-join-text-spec =
+pub join_text_spec : {M : Type 1} → statement M
+join_text_spec =
     tie.close
     (tie.spec
     (λ c κs. search rules) (λ c κs. search rules) (λ c. search rules) returns (λ c κs. search rules) (λ c. search rules) returns-2)

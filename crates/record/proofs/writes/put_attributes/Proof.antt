@@ -24,14 +24,14 @@ returns c =
     let third = c.before.before in
     let second = third.before.before.before.before in
     let first = second.before.before.before.before in
-    let a = first.before.before.before.args in
-    third.put82.ensures
+    let a = first.args in
+    third.put8-2.ensures
     ∙ ap (written 16 (little_endian 8 a.attributes.expiry))
     (second.put8.ensures ∙ ap (written 8 (little_endian 8 a.attributes.version)) first.put4.ensures)
-    ∙ in-turn a.r.now a.attributes (omega (arith, first.before.before.before.requires))
+    ∙ in-turn a.r.now a.attributes (omega (arith, first.requires))
 
-pub put-attributes-spec : {M : Type 1} → statement M
-put-attributes-spec =
+pub put_attributes_spec : {M : Type 1} → statement M
+put_attributes_spec =
     tie.close
     (tie.spec
     (λ c κs. search rules) (λ c κs. search rules) (λ c κs. search rules) (λ c. search rules) returns)

@@ -12,13 +12,13 @@ use Rattle.record.proofs.writes.set_attributes.Tie as tie
 returns : tie.Need-returns
 returns c =
     λ f u.
-    let a = c.before.before.before.before.before.args in
-    c.before.before.put-attributes.ensures
+    let a = c.args in
+    c.put_attributes.ensures
     ∙ ap (written flags_at (attribute_bytes a.attributes)) (sym (in-use-record f a.r.now u).bytes)
     ∙ attributes-written f a.attributes (fields a.r.now)
 
-pub set-attributes-spec : {M : Type 1} → statement M
-set-attributes-spec =
+pub set_attributes_spec : {M : Type 1} → statement M
+set_attributes_spec =
     tie.close
     (tie.spec
     (λ c κs. search rules) (λ c. search rules) returns)

@@ -43,23 +43,23 @@ filled f r b h k v size hk hv eh ek ev =
 abbrev given : tie.Start → Record
 given s = let a = s.args in record_with a.key.now a.value.now a.attributes
 
-head-told : (c : tie.After-write-head)
+head-told : (c : tie.After-write_head)
     → let s = c.before.before.before.before.before.before in
-    c.write-head.new.0 ≡ written 0 (head_of (form_of s.args.form) (length s.args.value.now) (given s)) s.args.r.now
-head-told c = rw (← c.before.mark.ensures) c.write-head.ensures
+    c.write_head.new.r ≡ written 0 (head_of (form_of s.args.form) (length s.args.value.now) (given s)) s.args.r.now
+head-told c = rw (← c.mark.ensures) c.write_head.ensures
 
 -- the head and the key leave the length
-write-value-requires : tie.Need-write-value-requires
+write-value-requires : tie.Need-write_value-requires
 write-value-requires c κs =
     let first = c.before.before.before in
     let headed = first.before.before.before.before in
     let s = headed.before.before.before.before.before.before in
     let f = form_of s.args.form in
     let r = given s in
-    let h = headed.write-head.new.0 in
+    let h = headed.write_head.new.r in
     let told = head-told headed in
     let n = length-headed f r s.args.r.now h s.requires.0 told in (
-      ap length (key-filled f r s.args.r.now h first.fill.new.0 s.requires.0 s.requires.1 told first.fill.ensures)
+      ap length (key-filled f r s.args.r.now h first.fill.new.buf s.requires.0 s.requires.1 told first.fill.ensures)
           ∙ length-written 24 (padded 24 r.key) h (omega (arith, length-padded 24 r.key s.requires.1))
           ∙ n,
       s.requires.2,
@@ -71,14 +71,14 @@ returns c =
     let first = second.before.before.before.before in
     let headed = first.before.before.before.before in
     let s = headed.before.before.before.before.before.before in
-    filled (form_of s.args.form) (given s) s.args.r.now headed.write-head.new.0 first.fill.new.0 second.write-value.new.0 s.requires.0 s.requires.1 s.requires.2
-    (head-told headed) first.fill.ensures second.write-value.ensures
+    filled (form_of s.args.form) (given s) s.args.r.now headed.write_head.new.r first.fill.new.buf second.write_value.new.r s.requires.0 s.requires.1 s.requires.2
+    (head-told headed) first.fill.ensures second.write_value.ensures
 
 pub write_spec : {M : Type 1} → statement M
 write_spec =
     tie.close
     (tie.spec
     (λ c. search rules)
-    (λ c. omega (arith, (lawful-form c.before.before.before.before.args.form).most))
+    (λ c. omega (arith, (lawful-form c.args.form).most))
     (λ c κs. search rules) (λ c κs. search rules) (λ c. search rules) (λ c. search rules) (λ c. search rules) (λ c κs. search rules)
     write-value-requires (λ c. search rules) returns)

@@ -22,11 +22,11 @@ in-turn b m k v a h =
 
 returns : tie.Need-returns
 returns c =
-    let a = c.before.before.before.before.before.args in
-    c.before.before.put-attributes.ensures ∙ in-turn a.r.now a.mark a.key a.value a.attributes (omega arith)
+    let a = c.args in
+    c.put_attributes.ensures ∙ in-turn a.r.now a.mark a.key a.value a.attributes (omega arith)
 
-pub write-head-spec : {M : Type 1} → statement M
-write-head-spec =
+pub write_head_spec : {M : Type 1} → statement M
+write_head_spec =
     tie.close
     (tie.spec
     (λ c. search rules)
@@ -34,5 +34,5 @@ write-head-spec =
     (λ c. simp length-set (omega arith))
     (λ c. simp length-set (omega arith))
     (λ c κs. search rules)
-    (λ c. simp length-set at c.before.before.put-attributes.auto.0)
+    (λ c. simp length-set at c.put_attributes.auto.r)
     returns)

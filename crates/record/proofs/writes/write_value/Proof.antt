@@ -22,30 +22,30 @@ module _ (s : tie.Start) (f : Form) (told : s.args.form ≡ f) where
       ≡ written 48 (padded (record_size (form_of s.args.form) - 48) s.args.value.now) s.args.r.now
   rest = ap (λ (g : Form). written 48 (padded (record_size (form_of g) - 48) s.args.value.now) s.args.r.now) (sym told)
 
-of128 : (c : tie.After-enum-told) → (length c.before.before.before.before.args.r.now ≡ 128) × (length c.before.before.before.before.args.value.now ≤ 64)
-of128 c = lengths c.before.before.before.before Of128 c.enum_told.given.1
+of128 : (c : tie.In-Of128) → (length c.args.r.now ≡ 128) × (length c.args.value.now ≤ 64)
+of128 c = lengths c.before.before.before Of128 c.in-Of128.is
 
-of192 : (c : tie.After-enum-told2) → (length c.before.before.before.before.args.r.now ≡ 192) × (length c.before.before.before.before.args.value.now ≤ 128)
-of192 c = lengths c.before.before.before.before Of192 c.enum-told2.given.1
+of192 : (c : tie.In-Of192) → (length c.args.r.now ≡ 192) × (length c.args.value.now ≤ 128)
+of192 c = lengths c.before.before.before Of192 c.in-Of192.is
 
-returns : tie.Need-returns
+returns : tie.Need-returns-in-Of128
 returns c =
     let g = c.before.before in
     let t = g.before.before in
-    let s = t.before.before.before.before in
+    let s = t.before.before.before in
     let f = of128 t in
-    fill-back 48 80 s.args.r.now s.args.value.now g.fill.new.0 (omega arith) (omega arith) g.fill.ensures ∙ rest s Of128 t.enum_told.given.1
+    fill-back 48 80 s.args.r.now s.args.value.now g.fill.new.buf (omega arith) (omega arith) g.fill.ensures ∙ rest s Of128 t.in-Of128.is
 
-returns-2 : tie.Need-returns-2
+returns-2 : tie.Need-returns-in-Of192
 returns-2 c =
     let g = c.before.before in
     let t = g.before.before in
-    let s = t.before.before.before.before in
+    let s = t.before.before.before in
     let f = of192 t in
-    fill-back 48 144 s.args.r.now s.args.value.now g.fill2.new.0 (omega arith) (omega arith) g.fill2.ensures ∙ rest s Of192 t.enum-told2.given.1
+    fill-back 48 144 s.args.r.now s.args.value.now g.fill-in-Of192.new.buf (omega arith) (omega arith) g.fill-in-Of192.ensures ∙ rest s Of192 t.in-Of192.is
 
-pub write-value-spec : {M : Type 1} → statement M
-write-value-spec =
+pub write_value_spec : {M : Type 1} → statement M
+write_value_spec =
     tie.close
     (tie.spec
     (λ c. search rules) (λ c. search rules)

@@ -23,10 +23,10 @@ line-size n few = omega (arith, length-append (nat_text n) crlf, length-nat_text
 line-fits : (c : tie.Start) → 0 + length (line array_mark c.args.count) ≤ length c.args.reply.now
 line-fits c = omega (arith, line-size c.args.count c.requires.0, c.requires.1)
 
-text-fits : (a : tie.After-put-array) → a.put-array.result + length a.before.before.before.before.args.text.now ≤ length a.put-array.new.0
+text-fits : (a : tie.After-put_array-at) → a.put_array-at.result + length a.args.text.now ≤ length a.put_array-at.new.buf
 text-fits a =
     let s = a.before.before.before.before in
-    omega (arith, line-size s.args.count s.requires.0, s.requires.1, a.put-array.ensures.place, same_size (line-fits s) a.put-array.ensures)
+    omega (arith, line-size s.args.count s.requires.0, s.requires.1, a.put_array-at.ensures.place, same_size (line-fits s) a.put_array-at.ensures)
 
 -- the line and the text, for the elements that have these bytes
 begun : (s : tie.Start) (xs : List Scalar) → length xs ≡ s.args.count → s.args.text.now ≡ scalars_bytes xs
@@ -44,17 +44,17 @@ returns c xs hl ht =
     let s = a.before.before.before.before in
     replied
     (next
-    (next (begun s xs hl ht) (subst (λ (n : ℕ). Wrote 0 (line array_mark n) s.args.reply.now a.put-array.new.0 a.put-array.result) (sym hl) a.put-array.ensures))
+    (next (begun s xs hl ht) (subst (λ (n : ℕ). Wrote 0 (line array_mark n) s.args.reply.now a.put_array-at.new.buf a.put_array-at.result) (sym hl) a.put_array-at.ensures))
     (wrote_as ht (record { place = refl; bytes = o.copy.ensures })))
 
-pub elements-spec : {M : Type 1} → statement M
-elements-spec =
+pub elements_spec : {M : Type 1} → statement M
+elements_spec =
     tie.close
     (tie.spec
     (λ c κs. line-fits c.before.before.before)
     (λ c κs. text-fits c.before.before.before)
     (λ c.
     let a = c.before.before.before.before.before.before in
-    omega (arith, text-fits a, same_size (line-fits a.before.before.before.before) a.put-array.ensures, a.before.before.before.before.well-formed.0.0))
+    omega (arith, text-fits a, same_size (line-fits a.before.before.before.before) a.put_array-at.ensures, a.well_formed.0.0))
     (λ c. search rules)
     returns)

@@ -9,7 +9,7 @@ start : (c : tie.Start) → Begun minus_one c.args.reply.now
 start c = begin c.requires
 
 returns : tie.Need-returns
-returns c = let e = c.before.before in replied (next (start e.before.before.before) e.put-integer.ensures)
+returns c = let e = c.before.before in replied (next (start e.before.before.before) e.put_integer-len.ensures)
 
-pub minus-one-spec : {M : Type 1} → statement M
-minus-one-spec = tie.close (tie.spec (λ c κs. room (start c.before.before)) (λ c. search rules) returns)
+pub minus_one_spec : {M : Type 1} → statement M
+minus_one_spec = tie.close (tie.spec (λ c κs. room (start c.before.before)) (λ c. search rules) returns)

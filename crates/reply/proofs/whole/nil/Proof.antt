@@ -9,7 +9,7 @@ start : (c : tie.Start) → Begun (one nil) c.args.reply.now
 start c = begin c.requires
 
 returns : tie.Need-returns
-returns c = let e = c.before.before in replied (next (start e.before.before.before) e.put-nil.ensures)
+returns c = let e = c.before.before in replied (next (start e.before.before.before) e.put_nil-len.ensures)
 
-pub nil-spec : {M : Type 1} → statement M
-nil-spec = tie.close (tie.spec (λ c κs. room (start c.before.before)) (λ c. search rules) returns)
+pub nil_spec : {M : Type 1} → statement M
+nil_spec = tie.close (tie.spec (λ c κs. room (start c.before.before)) (λ c. search rules) returns)

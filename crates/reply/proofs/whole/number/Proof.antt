@@ -10,7 +10,7 @@ start : (c : tie.Start) → Begun (one (number c.args.n)) c.args.reply.now
 start c = begin c.requires.0
 
 returns : tie.Need-returns
-returns c = let e = c.before.before in replied (next (start e.before.before.before) e.put-number.ensures)
+returns c = let e = c.before.before in replied (next (start e.before.before.before) e.put_number-len.ensures)
 
-pub number-spec : {M : Type 1} → statement M
-number-spec = tie.close (tie.spec (λ c κs. let s = c.before.before in (room (start s), s.requires.1)) (λ c. search rules) returns)
+pub number_spec : {M : Type 1} → statement M
+number_spec = tie.close (tie.spec (λ c κs. let s = c.before.before in (room (start s), s.requires.1)) (λ c. search rules) returns)

@@ -11,7 +11,7 @@ signed : (c : tie.Start) → SFits w64 (pos c.args.n)
 signed c = record { sfits = c.requires.1 }
 
 returns : tie.Need-returns
-returns c = let e = c.before.before in simp (back_is (signed e.before.before.before)) at e.put-integer.ensures
+returns c = let e = c.before.before in simp (back_is (signed e.before.before.before)) at e.put_integer.ensures
 
-pub put-number-spec : {M : Type 1} → statement M
-put-number-spec = tie.close (tie.spec (λ c. search rules) (λ c κs. let s = c.before.before in simp (back_is (signed s)) s.requires.0) (λ c. search rules) returns)
+pub put_number_spec : {M : Type 1} → statement M
+put_number_spec = tie.close (tie.spec (λ c. search rules) (λ c κs. let s = c.before.before in simp (back_is (signed s)) s.requires.0) (λ c. search rules) returns)

@@ -9,17 +9,17 @@ use Rattle.reply.proofs.whole.stale.Tie as tie
 start : (c : tie.Start) → Begun (stale_reply (shown c.args.value.now c.args.version 0)) c.args.reply.now
 start c = begin c.requires.0
 
-put-stale-requires : tie.Need-put-stale-requires
+put-stale-requires : tie.Need-put_stale-value_at-requires
 put-stale-requires c κs =
     let a = c.before.before.before in
-    room (next (start a.before.before.before.before) a.put-array.ensures)
+    room (next (start a.before.before.before.before) a.put_array-stale_at.ensures)
 
-put-value-requires : tie.Need-put-value-requires
+put-value-requires : tie.Need-put_value-len-requires
 put-value-requires c κs =
     let t = c.before.before.before in
     let a = t.before.before.before.before in
     let s = a.before.before.before.before in
-    (room (as_one (next (next (start s) a.put-array.ensures) t.put-stale.ensures)), s.requires.1)
+    (room (as_one (next (next (start s) a.put_array-stale_at.ensures) t.put_stale-value_at.ensures)), s.requires.1)
 
 returns : tie.Need-returns
 returns c =
@@ -27,7 +27,7 @@ returns c =
     let t = v.before.before.before.before in
     let a = t.before.before.before.before in
     let s = a.before.before.before.before in
-    replied (next (as_one (next (next (start s) a.put-array.ensures) t.put-stale.ensures)) v.put-value.ensures)
+    replied (next (as_one (next (next (start s) a.put_array-stale_at.ensures) t.put_stale-value_at.ensures)) v.put_value-len.ensures)
 
-pub stale-spec : {M : Type 1} → statement M
-stale-spec = tie.close (tie.spec (λ c κs. room (start c.before.before.before)) put-stale-requires put-value-requires (λ c. search rules) returns)
+pub stale_spec : {M : Type 1} → statement M
+stale_spec = tie.close (tie.spec (λ c κs. room (start c.before.before.before)) put-stale-requires put-value-requires (λ c. search rules) returns)

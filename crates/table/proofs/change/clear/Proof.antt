@@ -16,15 +16,15 @@ use Rattle.table.proofs.change.clear.Tie as tie
 inside : (s : tie.Start) → Inside (form_of s.args.form) s.args.table.now s.args.slot
 inside s = inside-table (form_of s.args.form) s.args.table.now s.requires.0 s.args.slot s.requires.1
 
-placed : (c : tie.After-size) → Borrows (form_of c.before.before.before.args.form) c.before.before.before.args.slot c.before.start.result c.size.result
-placed c = record { begins = c.before.start.ensures; size = c.size.ensures }
+placed : (c : tie.After-size) → Borrows (form_of c.args.form) c.args.slot c.start-from.result c.size.result
+placed c = record { begins = c.start-from.ensures; size = c.size.ensures }
 
 returns : tie.Need-returns
 returns c =
     let w = c.before.before in
     let s = c.before.before.before.before.before.before.before in
     let size = ap length (borrowed (form_of s.args.form) s.args.table.now s.args.slot _ _ (placed c.before.before.before.before)) ∙ length-slot (form_of s.args.form) s.args.table.now s.args.slot (inside s) in
-    replaced (form_of s.args.form) s.args.table.now s.requires.0 s.args.slot s.requires.1 _ _ (placed c.before.before.before.before) empty w.clear.new.0 (w.clear.ensures ∙ ap (λ (n : ℕ). replicate n 0) size) w.clear.auto.0
+    replaced (form_of s.args.form) s.args.table.now s.requires.0 s.args.slot s.requires.1 _ _ (placed c.before.before.before.before) empty w.clear.new.r (w.clear.ensures ∙ ap (λ (n : ℕ). replicate n 0) size) w.clear.auto.r
 
 pub clear_spec : {M : Type 1} → statement M
 clear_spec =

@@ -14,8 +14,8 @@ use Rattle.table.proofs.change.join.Tie as tie
 inside : (s : tie.Start) → Inside (form_of s.args.form) s.args.table.now s.args.slot
 inside s = inside-table (form_of s.args.form) s.args.table.now s.requires.0 s.args.slot (within (form_of s.args.form) s.args.table.now s.args.slot s.requires.1.0)
 
-placed : (c : tie.After-size) → Borrows (form_of c.before.before.before.before.args.form) c.before.before.before.before.args.slot c.before.start.result c.size.result
-placed c = record { begins = c.before.start.ensures; size = c.size.ensures }
+placed : (c : tie.After-size) → Borrows (form_of c.args.form) c.args.slot c.start-from.result c.size.result
+placed c = record { begins = c.start-from.ensures; size = c.size.ensures }
 
 join-requires : tie.Need-join-requires
 join-requires c κs =
@@ -26,10 +26,10 @@ returns : tie.Need-returns
 returns c =
     let w = c.before.before in
     let s = c.before.before.before.before.before.before.before.before in
-    changed (form_of s.args.form) s.args.table.now s.requires.0 s.args.slot s.requires.1.0 _ _ (placed c.before.before.before.before) (joined_record s.args.front s.args.s.now s.args.attributes) w.join.new.0 w.join.ensures w.join.auto.0
+    changed (form_of s.args.form) s.args.table.now s.requires.0 s.args.slot s.requires.1.0 _ _ (placed c.before.before.before.before) (joined_record s.args.front s.args.s.now s.args.attributes) w.join.new.r w.join.ensures w.join.auto.r
 
-pub join-spec : {M : Type 1} → statement M
-join-spec =
+pub join_spec : {M : Type 1} → statement M
+join_spec =
     tie.close
     (tie.spec
     (λ c κs. inside c.before.before)

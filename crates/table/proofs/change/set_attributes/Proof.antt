@@ -14,10 +14,10 @@ use Rattle.table.proofs.change.set_attributes.Tie as tie
 inside : (s : tie.Start) → Inside (form_of s.args.form) s.args.table.now s.args.slot
 inside s = inside-table (form_of s.args.form) s.args.table.now s.requires.0 s.args.slot (within (form_of s.args.form) s.args.table.now s.args.slot s.requires.1)
 
-placed : (c : tie.After-size) → Borrows (form_of c.before.before.before.args.form) c.before.before.before.args.slot c.before.start.result c.size.result
-placed c = record { begins = c.before.start.ensures; size = c.size.ensures }
+placed : (c : tie.After-size) → Borrows (form_of c.args.form) c.args.slot c.start-from.result c.size.result
+placed c = record { begins = c.start-from.ensures; size = c.size.ensures }
 
-set-attributes-requires : tie.Need-set-attributes-requires
+set-attributes-requires : tie.Need-set_attributes-requires
 set-attributes-requires c κs =
     let s = c.before.before.before.before in
     in_use (form_of s.args.form) s.args.table.now s.requires.0 s.args.slot s.requires.1 _ _ (placed c.before) (lawful-form s.args.form)
@@ -26,10 +26,10 @@ returns : tie.Need-returns
 returns c =
     let w = c.before.before in
     let s = c.before.before.before.before.before.before.before in
-    changed (form_of s.args.form) s.args.table.now s.requires.0 s.args.slot s.requires.1 _ _ (placed c.before.before.before.before) (with_attributes s.args.attributes) w.set-attributes.new.0 w.set-attributes.ensures w.set-attributes.auto.0
+    changed (form_of s.args.form) s.args.table.now s.requires.0 s.args.slot s.requires.1 _ _ (placed c.before.before.before.before) (with_attributes s.args.attributes) w.set_attributes.new.r w.set_attributes.ensures w.set_attributes.auto.r
 
-pub set-attributes-spec : {M : Type 1} → statement M
-set-attributes-spec =
+pub set_attributes_spec : {M : Type 1} → statement M
+set_attributes_spec =
     tie.close
     (tie.spec
     (λ c κs. inside c.before)

@@ -14,8 +14,8 @@ use Rattle.table.proofs.change.store.Tie as tie
 inside : (s : tie.Start) → Inside (form_of s.args.form) s.args.table.now s.args.slot
 inside s = inside-table (form_of s.args.form) s.args.table.now s.requires.0 s.args.slot s.requires.1.0
 
-placed : (c : tie.After-size) → Borrows (form_of c.before.before.before.before.before.args.form) c.before.before.before.before.before.args.slot c.before.start.result c.size.result
-placed c = record { begins = c.before.start.ensures; size = c.size.ensures }
+placed : (c : tie.After-size) → Borrows (form_of c.args.form) c.args.slot c.start-from.result c.size.result
+placed c = record { begins = c.start-from.ensures; size = c.size.ensures }
 
 write-requires : tie.Need-write-requires
 write-requires c κs =
@@ -26,7 +26,7 @@ returns : tie.Need-returns
 returns c =
     let w = c.before.before in
     let s = c.before.before.before.before.before.before.before.before.before in
-    replaced (form_of s.args.form) s.args.table.now s.requires.0 s.args.slot s.requires.1.0 _ _ (placed c.before.before.before.before) _ w.write.new.0 w.write.ensures w.write.auto.0
+    replaced (form_of s.args.form) s.args.table.now s.requires.0 s.args.slot s.requires.1.0 _ _ (placed c.before.before.before.before) _ w.write.new.r w.write.ensures w.write.auto.r
 
 pub store_spec : {M : Type 1} → statement M
 store_spec =

@@ -18,53 +18,53 @@ use borrow.Author.Rules.{rules}
 use Rattle.table.proofs.lookup.empty_slot.Statement.{statement}
 use Rattle.table.proofs.lookup.empty_slot.Tie as tie
 
-abbrev invariant-loop : tie.invariant-loop
+abbrev invariant-loop : tie.invariant-loop-i
 invariant-loop table form n i₀ i = Searched is_empty (slots_of (form_of form) table) (lowest is_empty (slots_of (form_of form) table)) n i
 
-abbrev decreases-loop : tie.decreases-loop
+abbrev decreases-loop : tie.decreases-loop-i
 decreases-loop table form n i₀ i = n - i
 
-loop-holds : tie.Need-loop-init invariant-loop decreases-loop
+loop-holds : tie.Need-loop-i-init invariant-loop decreases-loop
 loop-holds c =
     let s = c.before.before in
     let t = s.args.table.now in
-    record { within = omega arith; all = c.count.ensures ∙ count-is (form_of s.args.form) t s.requires; left = lowest_start is_empty (slots_of (form_of s.args.form) t) }
+    record { within = omega arith; all = c.count-n.ensures ∙ count-is (form_of s.args.form) t s.requires; left = lowest_start is_empty (slots_of (form_of s.args.form) t) }
 
-in-use-requires : tie.Need-in-use-requires invariant-loop decreases-loop
+in-use-requires : tie.Need-in_use-requires invariant-loop decreases-loop
 in-use-requires c κs =
     let l = c.before.before in
     let s = l.before.before.before in
-    omega (arith, ap length c.slot.ensures ∙ (slot-readable (form_of s.args.form) s.args.table.now s.requires l.loop.i (omega arith)).size)
+    omega (arith, ap length c.slot.ensures ∙ (slot-readable (form_of s.args.form) s.args.table.now s.requires l.loop-i.i (omega arith)).size)
 
 -- what the call said of the slot
-told : (c : tie.After-in-use invariant-loop decreases-loop)
+told : (c : tie.After-in_use invariant-loop decreases-loop)
     → let l = c.before.before.before in
     let s = l.before.before.before in
-    c.in_use.result ≡ not (is_empty (get_or (slots_of (form_of s.args.form) s.args.table.now) l.loop.i empty))
+    c.in_use.result ≡ not (is_empty (get_or (slots_of (form_of s.args.form) s.args.table.now) l.loop-i.i empty))
 told c =
     let l = c.before.before.before in
     let s = l.before.before.before in
     let f = form_of s.args.form in
     let t = s.args.table.now in
-    let i = l.loop.i in
-    c.in_use.ensures ∙ ap is_used c.before.slot.ensures ∙ sym (slot-first f (record_at f i t) (slot-readable f t s.requires i (omega arith)))
+    let i = l.loop-i.i in
+    c.in_use.ensures ∙ ap is_used c.slot.ensures ∙ sym (slot-first f (record_at f i t) (slot-readable f t s.requires i (omega arith)))
     ∙ ap (λ (x : Slot). not (is_empty x)) (slot_is f t s.requires i (omega arith))
 
-returns : tie.Need-returns invariant-loop decreases-loop
+returns : tie.Need-returns-then-not-in_use invariant-loop decreases-loop
 returns c =
     let l = c.before.before.before in
-    search-here l.before.loop.invariant l.loop-test.true (not-false _ (sym (told c.before) ∙ not-true _ c.if1.true))
+    search-here l.loop-i.invariant l.loop-i-test.true (not-false _ (sym (told c.before) ∙ c.if-not-in_use.true))
 
-loop-again : tie.Need-loop-preserved invariant-loop decreases-loop
+loop-again : tie.Need-loop-i-preserved invariant-loop decreases-loop
 loop-again c =
     let l = c.before.before.before in
-    search-next l.before.loop.invariant l.loop-test.true (not-true _ (sym (told c.before) ∙ not-false _ c.if1.false))
+    search-next l.loop-i.invariant l.loop-i-test.true (not-true _ (sym (told c.before) ∙ c.if-not-in_use.false))
 
-pub empty-slot-spec : {M : Type 1} → statement M
-empty-slot-spec =
+pub empty_slot_spec : {M : Type 1} → statement M
+empty_slot_spec =
     tie.close
     (tie.spec
     invariant-loop decreases-loop (λ c κs. search rules) loop-holds
-    (λ c κs. let s = c.before.before.before.before in inside-table (form_of s.args.form) s.args.table.now s.requires c.before.loop.i (omega arith))
+    (λ c κs. let s = c.before.before.before.before in inside-table (form_of s.args.form) s.args.table.now s.requires c.loop-i.i (omega arith))
     in-use-requires returns (λ c. search rules) (λ c. search rules) loop-again
-    (λ c. search-end c.before.loop.invariant c.loop-test.false))
+    (λ c. search-end c.loop-i.invariant c.loop-i-test.false))

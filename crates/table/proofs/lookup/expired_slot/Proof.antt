@@ -16,51 +16,51 @@ use borrow.Author.Rules.{rules}
 use Rattle.table.proofs.lookup.expired_slot.Statement.{statement}
 use Rattle.table.proofs.lookup.expired_slot.Tie as tie
 
-abbrev invariant-loop : tie.invariant-loop
+abbrev invariant-loop : tie.invariant-loop-i
 invariant-loop table form time n i₀ i = Searched (is_expired time) (slots_of (form_of form) table) (lowest (is_expired time) (slots_of (form_of form) table)) n i
 
-abbrev decreases-loop : tie.decreases-loop
+abbrev decreases-loop : tie.decreases-loop-i
 decreases-loop table form time n i₀ i = n - i
 
-loop-holds : tie.Need-loop-init invariant-loop decreases-loop
+loop-holds : tie.Need-loop-i-init invariant-loop decreases-loop
 loop-holds c =
     let s = c.before.before in
     let t = s.args.table.now in
     let ss = slots_of (form_of s.args.form) t in
-    record { within = omega arith; all = c.count.ensures ∙ count-is (form_of s.args.form) t s.requires; left = lowest_start (is_expired s.args.time) ss }
+    record { within = omega arith; all = c.count-n.ensures ∙ count-is (form_of s.args.form) t s.requires; left = lowest_start (is_expired s.args.time) ss }
 
-is-live-requires : tie.Need-is-live-requires invariant-loop decreases-loop
+is-live-requires : tie.Need-is_live-requires invariant-loop decreases-loop
 is-live-requires c κs =
     let l = c.before.before in
     let s = l.before.before.before in
-    omega (arith, ap length c.slot.ensures ∙ (slot-readable (form_of s.args.form) s.args.table.now s.requires l.loop.i (omega arith)).size)
+    omega (arith, ap length c.slot.ensures ∙ (slot-readable (form_of s.args.form) s.args.table.now s.requires l.loop-i.i (omega arith)).size)
 
 -- what the call said of the slot
-told : (c : tie.After-is-live invariant-loop decreases-loop)
+told : (c : tie.After-is_live invariant-loop decreases-loop)
     → let l = c.before.before.before in
     let s = l.before.before.before in
-    not c.is_live.result ≡ is_expired s.args.time (get_or (slots_of (form_of s.args.form) s.args.table.now) l.loop.i empty)
+    not c.is_live.result ≡ is_expired s.args.time (get_or (slots_of (form_of s.args.form) s.args.table.now) l.loop-i.i empty)
 told c =
     let l = c.before.before.before in
     let s = l.before.before.before in
-    let said = c.is_live.ensures ∙ ap (λ (x : List ℕ). live s.args.time (fields x)) c.before.slot.ensures in
-    ap not said ∙ slot-expired (form_of s.args.form) s.args.table.now s.requires l.loop.i (omega arith) s.args.time
+    let said = c.is_live.ensures ∙ ap (λ (x : List ℕ). live s.args.time (fields x)) c.slot.ensures in
+    ap not said ∙ slot-expired (form_of s.args.form) s.args.table.now s.requires l.loop-i.i (omega arith) s.args.time
 
-returns : tie.Need-returns invariant-loop decreases-loop
+returns : tie.Need-returns-then-not-is_live invariant-loop decreases-loop
 returns c =
     let l = c.before.before.before in
-    search-here l.before.loop.invariant l.loop-test.true (sym (told c.before) ∙ c.if1.true)
+    search-here l.loop-i.invariant l.loop-i-test.true (sym (told c.before) ∙ ap not c.if-not-is_live.true)
 
-loop-again : tie.Need-loop-preserved invariant-loop decreases-loop
+loop-again : tie.Need-loop-i-preserved invariant-loop decreases-loop
 loop-again c =
     let l = c.before.before.before in
-    search-next l.before.loop.invariant l.loop-test.true (sym (told c.before) ∙ c.if1.false)
+    search-next l.loop-i.invariant l.loop-i-test.true (sym (told c.before) ∙ ap not c.if-not-is_live.false)
 
-pub expired-slot-spec : {M : Type 1} → statement M
-expired-slot-spec =
+pub expired_slot_spec : {M : Type 1} → statement M
+expired_slot_spec =
     tie.close
     (tie.spec
     invariant-loop decreases-loop (λ c κs. search rules) loop-holds
-    (λ c κs. let s = c.before.before.before.before in inside-table (form_of s.args.form) s.args.table.now s.requires c.before.loop.i (omega arith))
+    (λ c κs. let s = c.before.before.before.before in inside-table (form_of s.args.form) s.args.table.now s.requires c.loop-i.i (omega arith))
     is-live-requires returns (λ c. search rules) (λ c. search rules) loop-again
-    (λ c. search-end c.before.loop.invariant c.loop-test.false))
+    (λ c. search-end c.loop-i.invariant c.loop-i-test.false))

@@ -7,24 +7,24 @@ use borrow.Author.Rules.{rules}
 use Rattle.table.proofs.lookup.free_slot.Statement.{statement}
 use Rattle.table.proofs.lookup.free_slot.Tie as tie
 
-enum_told : tie.Need-enum-told
+enum_told : tie.Need-enum_told-1
 enum_told c = search rules
 
-returns : tie.Need-returns
+returns : tie.Need-returns-in_default
 returns c =
-    let f = c.before.before.before in
-    let s = c.before.before.before.before.before in
-    c.expired-slot.ensures
-    ∙ free-expired s.args.time (slots_of (form_of s.args.form) s.args.table.now) (ap slot_of (sym c.before.enum_told.given.1) ∙ f.empty-slot.ensures)
+    let f = c.before.before in
+    let s = c.before.before.before.before in
+    c.expired_slot.ensures
+    ∙ free-expired s.args.time (slots_of (form_of s.args.form) s.args.table.now) (ap slot_of (sym c.in_default.is) ∙ f.empty_slot.ensures)
 
-returns-2 : tie.Need-returns-2
+returns-2 : tie.Need-returns
 returns-2 c =
-    let f = c.before.before.before in
-    let s = c.before.before.before.before.before in
-    free-empty s.args.time (slots_of (form_of s.args.form) s.args.table.now) _ (ap slot_of (sym c.before.free.given.1) ∙ f.empty-slot.ensures)
+    let f = c.before in
+    let s = c.before.before.before in
+    free-empty s.args.time (slots_of (form_of s.args.form) s.args.table.now) _ (ap slot_of (sym c.in-At.is) ∙ f.empty_slot.ensures)
 
-pub free-slot-spec : {M : Type 1} → statement M
-free-slot-spec =
+pub free_slot_spec : {M : Type 1} → statement M
+free_slot_spec =
     tie.close
     (tie.spec
     (λ c κs. search rules) (λ c. search rules) enum_told (λ c κs. search rules) returns returns-2)
