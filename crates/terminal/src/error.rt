@@ -3,9 +3,8 @@ ghost use Rattle.std.specs.Prelude.{◌≤◌, length};
 
 use crate::page::add;
 use crate::text::{Complaints, complain};
-use std::fmt;
 use std::fmt::Write;
-use std::io;
+use std::{fmt, io};
 
 // The room for a reason.
 const ROOM: usize = 256;
@@ -47,6 +46,14 @@ fn complain_words(rt: &impl Complaints, text: &[u8], is_of_system: bool) {
     }
 }
 
+// The same for the first n bytes of a buffer.
+fn complain_first(rt: &impl Complaints, buffer: &[u8; ROOM], n: usize, is_of_system: bool) {
+    let text: &[u8] = buffer;
+    if n <= text.len() {
+        complain_words(rt, &text[0..n], is_of_system);
+    }
+}
+
 // Writes what failed, as the caller names it, and why, on a line of standard error.
 pub fn complain_error(rt: &impl Complaints, what: &[u8], error: io::Error) {
     complain(rt, what);
@@ -57,9 +64,6 @@ pub fn complain_error(rt: &impl Complaints, what: &[u8], error: io::Error) {
     };
     let _ = write!(reason, "{error}");
     let Reason { bytes, len } = reason;
-    let text: &[u8] = &bytes;
-    if len <= text.len() {
-        complain_words(rt, &text[0..len], error.raw_os_error().is_some());
-    }
+    complain_first(rt, &bytes, len, error.raw_os_error().is_some());
     complain(rt, b"\n");
 }
