@@ -1,32 +1,23 @@
 -- The index made slot by slot, from the last one down.
 use Prim.Native.Nat.{ℕ, zero, suc, ◌+◌, ◌-◌, ◌≤◌, ◌<◌}
-use native.Mathlib.Nat.{zero-add, suc-add, add-suc}
+use native.Mathlib.Nat.{zero-add, suc-add}
 use native.Mathlib.Omega.{arith}
 use mathlib.Core.Path.{◌≡◌, refl, sym, ap, ◌∙◌}
 use mathlib.Core.Logic.{inl, inr}
 use mathlib.Core.Bool.{true, not}
 use mathlib.Core.List.{List, [], ◌∷◌, ◌++◌, append_assoc}
-use mathlib.Core.Option
-use mathlib.Core.Option.{Option, some}
+use mathlib.Core.Option.{some}
 use lib.ListN.{length, replicate, take, drop, get_or, get_elem?, length-append, length-drop}
 use lib.Seq.{length-take-le, take-append-le, drop-append-le, take_at, drop_at, drop-cons, drop-drop}
 use borrow.Author.Tests.{not-true}
 use Rattle.model.specs.Bytes.{part, padded, written}
 use Rattle.model.specs.Table.{Record, Slot, empty, used, any_holds, unlike, distinct}
-use Rattle.model.specs.Order.{before, In, Rising, Entry, entry, entry_key, insert, entries, numbers, key_of}
+use Rattle.model.specs.Order.{before, In, Rising, Entry, entry, entry_key, insert, entries, numbers}
 use Rattle.model.proofs.Basics.{and_left, and_right, some-eq, none-some, at_length, at-get_or}
 use Rattle.model.proofs.Order.{before-asymmetric}
 use Rattle.model.proofs.Rising.{Without}
-use Rattle.model.proofs.Index.{key_in-slot, key_in-at, in-entries, none_in}
+use Rattle.model.proofs.Index.{key_in-slot, in-entries, none_in}
 use Rattle.slice.proofs.Written.{drop-replicate}
-
--- ---- the key of a number
-
--- a number names the slot behind `first`
-pub key-of : (first : ℕ) (ss : List Slot) (n : ℕ) (r : Record) → first ≤ n → get_elem? ss (n - first) ≡ some (used r) → key_of first ss n ≡ r.key
-key-of first ss n r h e =
-    let number : n ≡ first + (n - first) = omega arith in
-    ap (key_of first ss) number ∙ ap (λ (o : Option (List ℕ)). Option.get_or o []) (key_in-at first ss (n - first) r e)
 
 -- ---- an entry put in at its place
 
@@ -113,22 +104,19 @@ put-list xs room n p x l e k h q =
     ∙ ap (λ (s : List ℕ). take p xs ++ ((x ∷ drop p xs) ++ s)) (rest ∙ ap (λ (m : ℕ). replicate m 0) left)
     ∙ sym (append_assoc (take p xs) (x ∷ drop p xs) (replicate (room - length (take p xs ++ (x ∷ drop p xs))) 0))
 
--- ---- the slots from one on, numbered behind `first`
+-- ---- the slots from one on
 
-module _ (first : ℕ) (ss : List Slot) (i : ℕ) where
+module _ (ss : List Slot) (i : ℕ) where
   from-slot : (s : Slot) → get_elem? ss i ≡ some s → drop i ss ≡ s ∷ drop (suc i) ss
   from-slot s e = drop-cons ss i empty (at_length ss i s e) ∙ ap (λ (x : Slot). x ∷ drop (suc i) ss) (at-get_or ss i s empty e)
 
-  pub entries-unused : get_elem? ss i ≡ some empty → entries (first + i) (drop i ss) ≡ entries (first + suc i) (drop (suc i) ss)
+  pub entries-unused : get_elem? ss i ≡ some empty → entries i (drop i ss) ≡ entries (suc i) (drop (suc i) ss)
   unfolding entries
-  entries-unused e = ap (entries (first + i)) (from-slot empty e) ∙ ap (λ (n : ℕ). entries n (drop (suc i) ss)) (sym (add-suc first i))
+  entries-unused e = ap (entries i) (from-slot empty e)
 
-  pub entries-used : (r : Record) → get_elem? ss i ≡ some (used r)
-      → entries (first + i) (drop i ss) ≡ insert (entry r.key (first + i)) (entries (first + suc i) (drop (suc i) ss))
+  pub entries-used : (r : Record) → get_elem? ss i ≡ some (used r) → entries i (drop i ss) ≡ insert (entry r.key i) (entries (suc i) (drop (suc i) ss))
   unfolding entries
-  entries-used r e =
-      ap (entries (first + i)) (from-slot (used r) e)
-      ∙ ap (λ (n : ℕ). insert (entry r.key (first + i)) (entries n (drop (suc i) ss))) (sym (add-suc first i))
+  entries-used r e = ap (entries i) (from-slot (used r) e)
 
 pub distinct-drop : (ss : List Slot) (i : ℕ) → distinct ss ≡ true → distinct (drop i ss) ≡ true
 unfolding distinct
@@ -137,11 +125,11 @@ distinct-drop [] (suc i) d = refl
 distinct-drop (s ∷ ss) (suc i) d = distinct-drop ss i (and_right (unlike s ss) (distinct ss) d)
 
 -- no slot after one in use has its key
-pub key-alone : (first : ℕ) (ss : List Slot) (i : ℕ) (r : Record) → distinct ss ≡ true → get_elem? ss i ≡ some (used r) → Without entry_key r.key (entries (first + suc i) (drop (suc i) ss))
+pub key-alone : (ss : List Slot) (i : ℕ) (r : Record) → distinct ss ≡ true → get_elem? ss i ≡ some (used r) → Without entry_key r.key (entries (suc i) (drop (suc i) ss))
 unfolding distinct
-key-alone first ss i r d e =
-    let h : distinct (used r ∷ drop (suc i) ss) ≡ true = ap distinct (sym (from-slot first ss i (used r) e)) ∙ distinct-drop ss i d in
-    none_in r.key (first + suc i) (drop (suc i) ss) (not-true (any_holds r.key (drop (suc i) ss)) (and_left (not (any_holds r.key (drop (suc i) ss))) (distinct (drop (suc i) ss)) h))
+key-alone ss i r d e =
+    let h : distinct (used r ∷ drop (suc i) ss) ≡ true = ap distinct (sym (from-slot ss i (used r) e)) ∙ distinct-drop ss i d in
+    none_in r.key (suc i) (drop (suc i) ss) (not-true (any_holds r.key (drop (suc i) ss)) (and_left (not (any_holds r.key (drop (suc i) ss))) (distinct (drop (suc i) ss)) h))
 
 at_drop : (ss : List Slot) (i j : ℕ) → get_elem? (drop i ss) j ≡ get_elem? ss (i + j)
 at_drop ss zero j = ap (get_elem? ss) (sym (zero-add j))
@@ -149,9 +137,7 @@ at_drop [] (suc i) j = refl
 at_drop (s ∷ ss) (suc i) j = at_drop ss i j ∙ ap (get_elem? (s ∷ ss)) (sym (suc-add i j))
 
 -- an entry is that of a slot in use
-pub entry-slot : (first : ℕ) (ss : List Slot) (i : ℕ) (g : Entry) → In g (entries (first + i) (drop i ss))
-    → (r : Record) × (get_elem? ss (g.at - first) ≡ some (used r)) × (r.key ≡ g.key) × (first ≤ g.at)
-entry-slot first ss i g h =
-    let w = key_in-slot (first + i) (drop i ss) g.at g.key (in-entries (first + i) (drop i ss) g h) in
-    let place : g.at - first ≡ i + w.0 = omega (arith, w.4) in
-    (w.1, ap (get_elem? ss) place ∙ sym (at_drop ss i w.0) ∙ w.2, w.3, omega (arith, w.4))
+pub entry-slot : (ss : List Slot) (i : ℕ) (g : Entry) → In g (entries i (drop i ss)) → (r : Record) × (get_elem? ss g.at ≡ some (used r)) × (r.key ≡ g.key)
+entry-slot ss i g h =
+    let w = key_in-slot i (drop i ss) g.at g.key (in-entries i (drop i ss) g h) in
+    (w.1, ap (get_elem? ss) w.4 ∙ sym (at_drop ss i w.0) ∙ w.2, w.3)

@@ -4,4 +4,3 @@ pub mod Moving
 pub mod Halving
 pub mod Building
 pub mod Listing
-pub mod Naming

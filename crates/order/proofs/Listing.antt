@@ -17,13 +17,13 @@ use Rattle.model.proofs.Index.{length-entries, entries-rising}
 use Rattle.record.specs.Record.{is_used, as_slot}
 use Rattle.record.proofs.Reading.{used-in-use, slot-unused}
 use Rattle.table.specs.Slots.{Reads, slots_of, InUseAt}
-use Rattle.table.proofs.Parts.{slot_is, slot-readable, in-use-at}
+use Rattle.table.proofs.Parts.{slot_is, slot-readable, record-in, in-use-at}
 use Rattle.order.specs.Places.{key_at_place, Ascends, Between, Lists}
-use Rattle.order.proofs.Building.{key-of, insert-at, at_in, in_take, in-drop, rising-at, number_at, put-numbers, put-list, entries-unused, entries-used, distinct-drop, key-alone, entry-slot}
+use Rattle.order.proofs.Building.{insert-at, at_in, in_take, in-drop, rising-at, number_at, put-numbers, put-list, entries-unused, entries-used, distinct-drop, key-alone, entry-slot}
 
-module _ {f : Form} {t : List ℕ} {first i room : ℕ} {l : List ℕ} {n : ℕ} (d : distinct (slots_of f t) ≡ true) (h : Lists f t first i room l n) where
+module _ {f : Form} {t : List ℕ} {i room : ℕ} {l : List ℕ} {n : ℕ} (d : distinct (slots_of f t) ≡ true) (h : Lists f t i room l n) where
   abbrev es : List Entry
-  es = entries (first + i) (drop i (slots_of f t))
+  es = entries i (drop i (slots_of f t))
 
   pub size : n ≡ length es
   size = h.count ∙ length-map es (λ e. e.at)
@@ -32,45 +32,41 @@ module _ {f : Form} {t : List ℕ} {first i room : ℕ} {l : List ℕ} {n : ℕ}
   entry_at p q = (get_or es p (entry [] 0), at-within es p (entry [] 0) (omega (arith, size)))
 
   -- the number at a place is that of a slot in use with the entry's key
-  slot_at : (p : ℕ) (g : Entry) → get_elem? es p ≡ some g
-      → (r : Record) × (get_elem? (slots_of f t) (get_or l p 0 - first) ≡ some (used r)) × (r.key ≡ g.key) × (first ≤ get_or l p 0)
+  slot_at : (p : ℕ) (g : Entry) → get_elem? es p ≡ some g → (r : Record) × (get_elem? (slots_of f t) (get_or l p 0) ≡ some (used r)) × (r.key ≡ g.key)
   slot_at p g e =
-      let w = entry-slot first (slots_of f t) i g (at_in es g p e) in
+      let w = entry-slot (slots_of f t) i g (at_in es g p e) in
       let number : get_or l p 0 ≡ g.at = ap (λ (s : List ℕ). get_or s p 0) h.bytes ∙ number_at es (replicate (room - length (numbers es)) 0) p g e in
-      (w.0, ap (λ (x : ℕ). get_elem? (slots_of f t) (x - first)) number ∙ w.1, w.2, omega (arith, number, w.3))
+      (w.0, ap (get_elem? (slots_of f t)) number ∙ w.1, w.2)
 
-  pub key-at : (p : ℕ) (g : Entry) → get_elem? es p ≡ some g → key_at_place f t first l p ≡ g.key
-  key-at p g e = let w = slot_at p g e in key-of first (slots_of f t) (get_or l p 0) w.0 w.3 w.1 ∙ w.2
+  pub key-at : (p : ℕ) (g : Entry) → get_elem? es p ≡ some g → key_at_place f t l p ≡ g.key
+  key-at p g e = let w = slot_at p g e in ap (λ (r : Record). r.key) (record-in f t (get_or l p 0) w.0 w.1) ∙ w.2
 
-  pub ascends : Ascends f t first l n
-  ascends = record { room = room_for; least = least; in_use = in_use; rises = rises }
+  pub ascends : Ascends f t l n
+  ascends = record { room = room_for; in_use = in_use; rises = rises }
     where
       room_for : n ≤ length l
       room_for = omega (arith, h.count, ap length h.bytes, length-append (numbers es) (replicate (room - length (numbers es)) 0))
 
-      least : (p : ℕ) → p < n → first ≤ get_or l p 0
-      least p q = let g = entry_at p q in (slot_at p g.0 g.1).3
+      in_use : (p : ℕ) → p < n → InUseAt f t (get_or l p 0)
+      in_use p q = let g = entry_at p q in let w = slot_at p g.0 g.1 in in-use-at f t (get_or l p 0) w.0 w.1
 
-      in_use : (p : ℕ) → p < n → InUseAt f t (get_or l p 0 - first)
-      in_use p q = let g = entry_at p q in let w = slot_at p g.0 g.1 in in-use-at f t (get_or l p 0 - first) w.0 w.1
-
-      rises : (p q : ℕ) → p < q → q < n → before (key_at_place f t first l p) (key_at_place f t first l q) ≡ true
+      rises : (p q : ℕ) → p < q → q < n → before (key_at_place f t l p) (key_at_place f t l q) ≡ true
       rises p q a b =
           let g = entry_at p (omega arith) in
           let k = entry_at q b in
           (λ j. before (key-at p g.0 g.1 j) (key-at q k.0 k.1 j))
-          ∙ rising-at es p q g.0 k.0 (entries-rising (first + i) (drop i (slots_of f t)) (distinct-drop (slots_of f t) i d)) g.1 k.1 a
+          ∙ rising-at es p q g.0 k.0 (entries-rising i (drop i (slots_of f t)) (distinct-drop (slots_of f t) i d)) g.1 k.1 a
 
 -- the same slot and the same room, however they are come by
-pub lists-as : {f : Form} {t : List ℕ} {first i j room size : ℕ} {l : List ℕ} {n : ℕ} → i ≡ j → room ≡ size → Lists f t first i room l n → Lists f t first j size l n
-lists-as {f} {t} {first} {i} {j} {room} {size} {l} {n} p q h = subst (λ (r : ℕ). Lists f t first j r l n) q (subst (λ (k : ℕ). Lists f t first k room l n) p h)
+pub lists-as : {f : Form} {t : List ℕ} {i j room size : ℕ} {l : List ℕ} {n : ℕ} → i ≡ j → room ≡ size → Lists f t i room l n → Lists f t j size l n
+lists-as {f} {t} {i} {j} {room} {size} {l} {n} p q h = subst (λ (r : ℕ). Lists f t j r l n) q (subst (λ (k : ℕ). Lists f t k room l n) p h)
 
 -- ---- no slot yet
 
-pub lists-none : (f : Form) (t : List ℕ) (first i room : ℕ) {l : List ℕ} → length (slots_of f t) ≤ i → l ≡ replicate room 0 → Lists f t first i room l 0
+pub lists-none : (f : Form) (t : List ℕ) (i room : ℕ) {l : List ℕ} → length (slots_of f t) ≤ i → l ≡ replicate room 0 → Lists f t i room l 0
 unfolding entries
-lists-none f t first i room h e =
-    let z : entries (first + i) (drop i (slots_of f t)) ≡ [] = ap (entries (first + i)) (drop_of_length-le (slots_of f t) h) in
+lists-none f t i room h e =
+    let z : entries i (drop i (slots_of f t)) ≡ [] = ap (entries i) (drop_of_length-le (slots_of f t) h) in
     record {
       bytes = e ∙ ap (λ (m : ℕ). replicate m 0) (sym (sub-zero room)) ∙ ap (λ (x : List Entry). padded room (numbers x)) (sym z);
       count = ap (λ (x : List Entry). length (numbers x)) (sym z);
@@ -78,28 +74,28 @@ lists-none f t first i room h e =
 
 -- ---- a slot more
 
-module _ {f : Form} {t : List ℕ} {first i room : ℕ} {l : List ℕ} {n : ℕ} (d : distinct (slots_of f t) ≡ true) (h : Lists f t first (suc i) room l n) where
+module _ {f : Form} {t : List ℕ} {i room : ℕ} {l : List ℕ} {n : ℕ} (d : distinct (slots_of f t) ≡ true) (h : Lists f t (suc i) room l n) where
   abbrev later : List Entry
-  later = entries (first + suc i) (drop (suc i) (slots_of f t))
+  later = entries (suc i) (drop (suc i) (slots_of f t))
 
   -- fewer numbers than slots
   pub fewer : i < length (slots_of f t) → n < length (slots_of f t)
-  fewer q = omega (arith, size d h, length-entries (first + suc i) (drop (suc i) (slots_of f t)), length-drop (suc i) (slots_of f t))
+  fewer q = omega (arith, size d h, length-entries (suc i) (drop (suc i) (slots_of f t)), length-drop (suc i) (slots_of f t))
 
-  pub skips : get_elem? (slots_of f t) i ≡ some empty → Lists f t first i room l n
+  pub skips : get_elem? (slots_of f t) i ≡ some empty → Lists f t i room l n
   skips e =
-      let k = sym (entries-unused first (slots_of f t) i e) in
+      let k = sym (entries-unused (slots_of f t) i e) in
       record { bytes = h.bytes ∙ ap (λ (x : List Entry). padded room (numbers x)) k; count = h.count ∙ ap (λ (x : List Entry). length (numbers x)) k }
 
   module _ (r : Record) (e : get_elem? (slots_of f t) i ≡ some (used r)) where
     -- no slot after it has its key
-    pub not_there : (p : ℕ) → p < n → key_at_place f t first l p ≡ r.key → ⊥
+    pub not_there : (p : ℕ) → p < n → key_at_place f t l p ≡ r.key → ⊥
     not_there p q k =
         let g = entry_at d h p q in
-        key-alone first (slots_of f t) i r d e g.0 (at_in later g.0 p g.1) (sym (key-at d h p g.0 g.1) ∙ k)
+        key-alone (slots_of f t) i r d e g.0 (at_in later g.0 p g.1) (sym (key-at d h p g.0 g.1) ∙ k)
 
-    inserted : (p : ℕ) → Between f t first l n r.key p → entries (first + i) (drop i (slots_of f t)) ≡ take p later ++ (entry r.key (first + i) ∷ drop p later)
-    inserted p b = entries-used first (slots_of f t) i r e ∙ insert-at (entry r.key (first + i)) later p (omega (arith, b.within, size d h)) low high
+    inserted : (p : ℕ) → Between f t l n r.key p → entries i (drop i (slots_of f t)) ≡ take p later ++ (entry r.key i ∷ drop p later)
+    inserted p b = entries-used (slots_of f t) i r e ∙ insert-at (entry r.key i) later p (omega (arith, b.within, size d h)) low high
       where
         low : (g : Entry) → In g (take p later) → before g.key r.key ≡ true
         low g j = let w = in_take p later g j in ap (λ (x : List ℕ). before x r.key) (sym (key-at d h w.0 g w.2)) ∙ b.low w.0 w.1
@@ -109,19 +105,19 @@ module _ {f : Form} {t : List ℕ} {first i room : ℕ} {l : List ℕ} {n : ℕ}
             let w = in-drop p later g j in
             ap (before r.key) (sym (key-at d h w.0 g w.2)) ∙ b.high w.0 w.1 (omega (arith, at_length later w.0 g w.2, size d h))
 
-    pub enters : (p : ℕ) → Between f t first l n r.key p → n < room → {after : List ℕ} → after ≡ written p ((first + i) ∷ part p (n - p) l) l
-        → Lists f t first i room after (n + 1)
+    pub enters : (p : ℕ) → Between f t l n r.key p → n < room → {after : List ℕ} → after ≡ written p (i ∷ part p (n - p) l) l
+        → Lists f t i room after (n + 1)
     enters p b q w = record {
       bytes = w
-          ∙ put-list (numbers later) room n p (first + i) l h.bytes h.count q b.within
-          ∙ ap (padded room) (sym (put-numbers later (entry r.key (first + i)) p))
+          ∙ put-list (numbers later) room n p i l h.bytes h.count q b.within
+          ∙ ap (padded room) (sym (put-numbers later (entry r.key i) p))
           ∙ ap (λ (x : List Entry). padded room (numbers x)) (sym (inserted p b));
       count = omega (
         arith,
         size d h,
-        length-map (entries (first + i) (drop i (slots_of f t))) (λ e. e.at),
-        ap length (entries-used first (slots_of f t) i r e),
-        length-insert (entry r.key (first + i)) later,
+        length-map (entries i (drop i (slots_of f t))) (λ e. e.at),
+        ap length (entries-used (slots_of f t) i r e),
+        length-insert (entry r.key i) later,
       );
     }
 

@@ -1,3 +1,2 @@
 pub mod Compared
 pub mod Places
-pub mod Passes

@@ -3,13 +3,11 @@
 
 mod index;
 mod keys;
-mod pass;
 mod search;
 
 pub use index::make_index;
 pub use keys::compare;
-pub use pass::is_index;
-pub use search::{find_place, put_in, take_out};
+pub use search::find_place;
 
 // How a key stands to another in byte order.
 #[derive(Clone, Copy)]

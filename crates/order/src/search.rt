@@ -1,33 +1,25 @@
-// Places in a list of slot numbers along which the keys rise: the search for a key, and a number put in or taken out.
-ghost use Rattle.std.specs.Prelude.{◌≡◌, ◌∷◌, [], ◌++◌, ◌+◌, ◌-◌, ◌≤◌, ◌<◌, length};
+// Places in a list of slot numbers along which the keys rise: the search for a key, and a number put in.
+ghost use Rattle.std.specs.Prelude.{◌≡◌, ◌∷◌, ◌-◌, ◌≤◌, ◌<◌, length};
 ghost use Rattle.model.specs.Bytes.{part, written};
 ghost use Rattle.record.specs.Forms.{form_of};
 ghost use Rattle.table.specs.Slots.{Reads};
-ghost use Rattle.order.specs.Places.{Ascends, Finds};
+ghost use Rattle.order.specs.Places.{Ascends, Stands};
 
 use crate::keys::compare;
 use crate::{Comparison, Place};
 use record::Form;
 
-// The place of a key among the first `n` numbers of a list, by halves: of 256 keys at most nine are compared. Slots are numbered from `first` on.
-pub fn find_place(
-    table: &[u8],
-    form: Form,
-    first: usize,
-    list: &[u8],
-    n: usize,
-    key: &[u8],
-) -> Place
+// The place of a key among the first `n` numbers of a list, by halves: of 256 keys at most nine are compared.
+pub fn find_place(table: &[u8], form: Form, list: &[u8], n: usize, key: &[u8]) -> Place
     requires reads { Reads (form_of form) table.now }
-    requires ascends { Ascends (form_of form) table.now first list.now n }
-    ensures { Finds (form_of form) table.now first list.now n key.now result }
+    requires ascends { Ascends (form_of form) table.now list.now n }
+    ensures { Stands (form_of form) table.now list.now n key.now result }
 {
     let mut low = 0;
     let mut high = n;
     while low < high {
         let middle = low + (high - low) / 2;
-        let slot = list[middle] as usize - first;
-        let r = table::record_at(table, form, slot);
+        let r = table::record_at(table, form, list[middle] as usize);
         match compare(key, record::key(r)) {
             Comparison::Earlier => {
                 high = middle;
@@ -50,18 +42,4 @@ pub fn put_in(list: &mut [u8], n: usize, place: usize, number: u8)
 {
     slice::move_up(&mut list[place..n + 1], n - place, 1);
     list[place] = number;
-}
-
-// Takes the number at a place of the first `n` out: those after it move down by one, and a zero comes behind them.
-pub fn take_out(list: &mut [u8], n: usize, place: usize)
-    requires { (place < n) × (n ≤ length list.old) }
-    ensures { list.new ≡ written place (part (place + 1) (n - (place + 1)) list.old ++ (0 ∷ [])) list.old }
-{
-    let last = n - 1;
-    let mut i = place;
-    while i < last {
-        list[i] = list[i + 1];
-        i += 1;
-    }
-    list[last] = 0;
 }

@@ -11,31 +11,31 @@ use Rattle.access.proofs.del.Tie as tie
 
 number-requires : tie.Need-number-requires
 number-requires c κs =
-    let s = c.before.before.before.before in
+    let s = c in
     (number_in s.requires.1 0 (omega arith), omega arith)
 
-returns : tie.Need-returns
+returns : tie.Need-returns-in_default
 returns c =
-    let s = c.before.before.before.before.before.before.before in
-    does-answer _ s.args.table.now _ _ _ _ (del-absent s.args.table.now s.args.target _ _ c.before.before.before.before.match.keys2) c.before.before.number.ensures
+    let s = c in
+    does-answer _ s.args.table.now _ _ _ _ (del-absent s.args.table.now s.args.target _ _ c.in_default.in_default-own.keys2) c.number.ensures
 
 clear-requires : tie.Need-clear-requires
 clear-requires c κs =
-    let s = c.before.before.before.before.before.before in
-    (s.requires.0.reads, within _ _ _ (in-use-here (shape_of s.args.target) s.args.table.now _ _ c.before.before.found.given.1 s.requires.0.at))
+    let s = c in
+    (s.requires.0.reads, within _ _ _ (in-use-here (shape_of s.args.target) s.args.table.now _ _ c.in-Live.is s.requires.0.at))
 
 number-requires-2 : tie.Need-number-requires-2
 number-requires-2 c κs =
-    let s = c.before.before.before.before.before.before.before.before.before.before in
+    let s = c in
     (number_in s.requires.1 1 (omega arith), omega arith)
 
-returns-2 : tie.Need-returns-2
+returns-2 : tie.Need-returns
 returns-2 c =
-    let s = c.before.before.before.before.before.before.before.before.before.before.before.before.before in
-    does-store _ s.args.table.now _ _ _ _ (del-live s.args.table.now s.args.target _ _ _ _ c.before.before.before.before.before.before.before.before.before.found.given.1) c.before.before.before.before.before.before.clear.ensures c.before.before.number2.ensures
+    let s = c in
+    does-store _ s.args.table.now _ _ _ _ (del-live s.args.table.now s.args.target _ _ _ _ c.in-Live.is) c.clear.ensures c.number-2.ensures
 
-pub del-spec : {M : Type 1} → statement M
-del-spec =
+pub del_spec : {M : Type 1} → statement M
+del_spec =
     tie.close
     (tie.spec
     (λ c. search rules)

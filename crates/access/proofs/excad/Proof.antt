@@ -11,43 +11,43 @@ use Rattle.access.proofs.Acting.{excad-absent, excad-live}
 use Rattle.access.proofs.excad.Statement.{statement}
 use Rattle.access.proofs.excad.Tie as tie
 
-minus-one-requires : tie.Need-minus-one-requires
+minus-one-requires : tie.Need-minus_one-requires
 minus-one-requires c κs =
-    let s = c.before.before.before.before in
+    let s = c in
     minus_one-in s.requires.1
 
-returns : tie.Need-returns
+returns : tie.Need-returns-in_default
 returns c =
-    let s = c.before.before.before.before.before.before.before in
-    does-answer _ s.args.table.now _ _ _ _ (excad-absent s.args.table.now s.args.target _ _ c.before.before.before.before.match.keys2 _) c.before.before.minus_one.ensures
+    let s = c in
+    does-answer _ s.args.table.now _ _ _ _ (excad-absent s.args.table.now s.args.target _ _ c.in_default.in_default-own.keys2 _) c.minus_one.ensures
 
 clear-requires : tie.Need-clear-requires
 clear-requires c κs =
-    let s = c.before.before.before.before.before.before.before.before in
-    (s.requires.0.reads, within _ _ _ (in-use-here (shape_of s.args.target) s.args.table.now _ _ c.before.before.before.before.found.given.1 s.requires.0.at))
+    let s = c in
+    (s.requires.0.reads, within _ _ _ (in-use-here (shape_of s.args.target) s.args.table.now _ _ c.in-Live.is s.requires.0.at))
 
 number-requires : tie.Need-number-requires
 number-requires c κs =
-    let s = c.before.before.before.before.before.before.before.before.before.before.before.before in
+    let s = c in
     (number_in s.requires.1 _ (omega arith), omega arith)
 
-returns-2 : tie.Need-returns-2
+returns-2 : tie.Need-returns-then-version-attributes
 returns-2 c =
-    let s = c.before.before.before.before.before.before.before.before.before.before.before.before.before.before.before in
-    does-store _ s.args.table.now _ _ _ _ (excad-live s.args.table.now s.args.target _ _ _ _ c.before.before.before.before.before.before.before.before.before.before.before.found.given.1 _ ∙ rw (eq-eqb _ _ c.before.before.before.before.before.before.before.before.if1.true)) c.before.before.before.before.before.before.clear.ensures c.before.before.number.ensures
+    let s = c in
+    does-store _ s.args.table.now _ _ _ _ (excad-live s.args.table.now s.args.target _ _ _ _ c.in-Live.is _ ∙ rw (eq-eqb _ _ c.if-version-attributes.true)) c.clear.ensures c.number.ensures
 
 number-requires-2 : tie.Need-number-requires-2
 number-requires-2 c κs =
-    let s = c.before.before.before.before.before.before.before.before in
+    let s = c in
     (number_in s.requires.1 _ (omega arith), omega arith)
 
-returns-3 : tie.Need-returns-3
+returns-3 : tie.Need-returns
 returns-3 c =
-    let s = c.before.before.before.before.before.before.before.before.before.before.before in
-    does-answer _ s.args.table.now _ _ _ _ (excad-live s.args.table.now s.args.target _ _ _ _ c.before.before.before.before.before.before.before.found.given.1 _ ∙ rw (ne_eqb _ _ c.before.before.before.before.if1.false)) c.before.before.number2.ensures
+    let s = c in
+    does-answer _ s.args.table.now _ _ _ _ (excad-live s.args.table.now s.args.target _ _ _ _ c.in-Live.is _ ∙ rw (ne_eqb _ _ c.if-version-attributes.false)) c.number-2.ensures
 
-pub excad-spec : {M : Type 1} → statement M
-excad-spec =
+pub excad_spec : {M : Type 1} → statement M
+excad_spec =
     tie.close
     (tie.spec
     (λ c. search rules)

@@ -11,29 +11,29 @@ use Rattle.access.proofs.exgae.Tie as tie
 
 nil-requires : tie.Need-nil-requires
 nil-requires c κs =
-    let s = c.before.before.before.before in
+    let s = c in
     nil-in s.requires.1
 
-returns : tie.Need-returns
+returns : tie.Need-returns-in_default
 returns c =
-    let s = c.before.before.before.before.before.before.before in
-    does-answer _ s.args.table.now _ _ _ _ (exgae-absent s.args.table.now s.args.target _ _ c.before.before.before.before.match.keys2 _) c.before.before.nil.ensures
+    let s = c in
+    does-answer _ s.args.table.now _ _ _ _ (exgae-absent s.args.table.now s.args.target _ _ c.in_default.in_default-own.keys2 _) c.nil.ensures
 
-set-attributes-requires : tie.Need-set-attributes-requires
+set-attributes-requires : tie.Need-set_attributes-requires
 set-attributes-requires c κs =
-    let s = c.before.before.before.before.before.before.before.before.before.before.before.before in
-    (s.requires.0.reads, in-use-here (shape_of s.args.target) s.args.table.now _ _ c.before.before.before.before.before.before.before.before.found.given.1 s.requires.0.at)
+    let s = c in
+    (s.requires.0.reads, in-use-here (shape_of s.args.target) s.args.table.now _ _ c.in-Live.is s.requires.0.at)
 
-returns-2 : tie.Need-returns-2
+returns-2 : tie.Need-returns
 returns-2 c =
-    let s = c.before.before.before.before.before.before.before.before.before.before.before.before.before.before.before in
-    let h = c.before.before.before.before.before.before.before.before.before.before.before.found.given.1 in
+    let s = c in
+    let h = c.in-Live.is in
     does-after _ s.args.table.now _ _ _ _ (exgae-live s.args.table.now s.args.target _ _ _ _ h _)
-    (c.before.before.set-attributes.ensures ∙ touched s.args.table.now s.args.target [] [] _ _ h s.args.expire _ c.before.before.before.before.expiry-after.ensures)
-    (exget-live s.args.table.now s.args.target _ _ _ _ h _) c.before.before.before.before.before.before.before.exget.ensures
+    (c.set_attributes.ensures ∙ touched s.args.table.now s.args.target [] [] _ _ h s.args.expire _ c.expiry_after-expiry.ensures)
+    (exget-live s.args.table.now s.args.target _ _ _ _ h _) c.exget-shown.ensures
 
-pub exgae-spec : {M : Type 1} → statement M
-exgae-spec =
+pub exgae_spec : {M : Type 1} → statement M
+exgae_spec =
     tie.close
     (tie.spec
     (λ c. search rules)

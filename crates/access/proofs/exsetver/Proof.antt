@@ -10,31 +10,31 @@ use Rattle.access.proofs.exsetver.Tie as tie
 
 number-requires : tie.Need-number-requires
 number-requires c κs =
-    let s = c.before.before.before.before in
+    let s = c in
     (number_in s.requires.1 0 (omega arith), omega arith)
 
-returns : tie.Need-returns
+returns : tie.Need-returns-in_default
 returns c =
-    let s = c.before.before.before.before.before.before.before in
-    does-answer _ s.args.table.now _ _ _ _ (exsetver-absent s.args.table.now s.args.target _ _ c.before.before.before.before.match.keys2 _) c.before.before.number.ensures
+    let s = c in
+    does-answer _ s.args.table.now _ _ _ _ (exsetver-absent s.args.table.now s.args.target _ _ c.in_default.in_default-own.keys2 _) c.number.ensures
 
-set-attributes-requires : tie.Need-set-attributes-requires
+set-attributes-requires : tie.Need-set_attributes-requires
 set-attributes-requires c κs =
-    let s = c.before.before.before.before.before.before in
-    (s.requires.0.reads, in-use-here (shape_of s.args.target) s.args.table.now _ _ c.before.before.found.given.1 s.requires.0.at)
+    let s = c in
+    (s.requires.0.reads, in-use-here (shape_of s.args.target) s.args.table.now _ _ c.in-Live.is s.requires.0.at)
 
 number-requires-2 : tie.Need-number-requires-2
 number-requires-2 c κs =
-    let s = c.before.before.before.before.before.before.before.before.before.before in
+    let s = c in
     (number_in s.requires.1 1 (omega arith), omega arith)
 
-returns-2 : tie.Need-returns-2
+returns-2 : tie.Need-returns
 returns-2 c =
-    let s = c.before.before.before.before.before.before.before.before.before.before.before.before.before in
-    does-store _ s.args.table.now _ _ _ _ (exsetver-live s.args.table.now s.args.target _ _ _ _ c.before.before.before.before.before.before.before.before.before.found.given.1 _) c.before.before.before.before.before.before.set-attributes.ensures c.before.before.number2.ensures
+    let s = c in
+    does-store _ s.args.table.now _ _ _ _ (exsetver-live s.args.table.now s.args.target _ _ _ _ c.in-Live.is _) c.set_attributes.ensures c.number-2.ensures
 
-pub exsetver-spec : {M : Type 1} → statement M
-exsetver-spec =
+pub exsetver_spec : {M : Type 1} → statement M
+exsetver_spec =
     tie.close
     (tie.spec
     (λ c. search rules)

@@ -18,8 +18,8 @@ Is c r n = checked_fixed (model_number n) r ≡ given 9 (read_fixed (model_numbe
 row : (c : tie.Start) (r : ReadFixed) {n : Number} → c.args.number ≡ n → Is c r n → Is c r c.args.number
 row c r e = subst (Is c r) (sym e)
 
-pub read-fixed-spec : {M : Type 1} → statement M
-read-fixed-spec =
+pub read_fixed_spec : {M : Type 1} → statement M
+read_fixed_spec =
     tie.close
     (tie.spec
     (λ c. search rules)
@@ -27,6 +27,6 @@ read-fixed-spec =
     (λ c κs. search rules)
     (λ c. search rules)
     (λ c κs. search rules)
-    (λ c. row c.before.before.before (record { number = 0; fixed = record { by = pos 0; version = 0 } }) c.enum_told.given.1 refl)
-    (λ c. row c.before.before.before.before c.signed_word.result c.before.enum-told2.given.1 c.signed_word.ensures)
-    (λ c. row c.before.before.before.before c.version-word.result c.before.enum-told3.given.1 c.version-word.ensures))
+    (λ c. row c.before.before (record { number = 0; fixed = record { by = pos 0; version = 0 } }) c.in-Absent.is refl)
+    (λ c. row c.before.before.before c.signed_word.result c.in-Signed.is c.signed_word.ensures)
+    (λ c. row c.before.before.before c.version_word.result c.in-Version.is c.version_word.ensures))

@@ -11,19 +11,19 @@ use Rattle.values.proofs.Answers.{signed-checked}
 use Rattle.arguments.proofs.signed_word.Statement.{statement}
 use Rattle.arguments.proofs.signed_word.Tie as tie
 
-returns-2 : tie.Need-returns-2
+returns-2 : tie.Need-returns
 returns-2 c =
-    let z = c.before in
-    let r = z.before.before in
-    let fits : SFits w64 z.by.given.0.0 = record { sfits = c.known-told.given.0.1 } in
-    ap (λ (y : ℤ). ok y) (back_is fits) ∙ signed-checked (read_signed r.before.before.args.w.now) r.read-signed.ensures z.by.given.1
+    let z = c in
+    let r = z in
+    let fits : SFits w64 z.in-Value.by = record { sfits = c.in-Value.known_told-1-own.given.0.1 } in
+    ap (λ (y : ℤ). ok y) (back_is fits) ∙ signed-checked (read_signed r.args.w.now) r.read_signed.ensures z.in-Value.is
 
-pub signed-word-spec : {M : Type 1} → statement M
-signed-word-spec =
+pub signed_word_spec : {M : Type 1} → statement M
+signed_word_spec =
     tie.close
     (tie.spec
     (λ c κs. search rules)
     (λ c. search rules)
     (λ c. search rules)
-    (λ c. let r = c.before.before in signed-checked (read_signed r.before.before.args.w.now) r.read-signed.ensures c.enum_told.given.1)
+    (λ c. let r = c in signed-checked (read_signed r.args.w.now) r.read_signed.ensures c.in_default.is)
     returns-2)

@@ -13,9 +13,9 @@ last false = refl
 
 returns : tie.Need-returns
 returns c =
-    let a = c.before.before.args in
+    let a = c.args in
     ap (λ (v : Bool). leb 1 a.key && (leb a.key 24 && v))
     (ap (λ (n : ℕ). not a.rule.valued || leb a.value n) c.limit.ensures ∙ last _)
 
-pub sizes-ok-spec : {M : Type 1} → statement M
-sizes-ok-spec = tie.close (tie.spec (λ c κs. search rules) returns)
+pub sizes_ok_spec : {M : Type 1} → statement M
+sizes_ok_spec = tie.close (tie.spec (λ c κs. search rules) returns)

@@ -5,13 +5,13 @@ use Rattle.values.proofs.Answers.{natural-checked}
 use Rattle.arguments.proofs.version_word.Statement.{statement}
 use Rattle.arguments.proofs.version_word.Tie as tie
 
-pub version-word-spec : {M : Type 1} → statement M
-version-word-spec =
+pub version_word_spec : {M : Type 1} → statement M
+version_word_spec =
     tie.close
     (tie.spec
     (λ c κs. search rules)
     (λ c. search rules)
     (λ c. search rules)
-    (λ c. let r = c.before.before in natural-checked (read_version r.before.before.args.w.now) r.read-version.ensures c.enum_told.given.1)
-    (λ c. let n = c.before in let r = n.before.before in
-    natural-checked (read_version r.before.before.args.w.now) r.read-version.ensures n.version.given.1))
+    (λ c. let r = c in natural-checked (read_version r.args.w.now) r.read_version.ensures c.in_default.is)
+    (λ c. let n = c in let r = n in
+    natural-checked (read_version r.args.w.now) r.read_version.ensures n.in-Value.is))

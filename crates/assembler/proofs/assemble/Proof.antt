@@ -14,50 +14,50 @@ use Rattle.assembler.proofs.Holding.{assembles-refused, assembles-improper}
 use Rattle.assembler.proofs.assemble.Statement.{statement}
 use Rattle.assembler.proofs.assemble.Tie as tie
 
-abbrev start : tie.Else2 → tie.Start
+abbrev start : tie.Else-bytes-held → tie.Start
 start c = c.before.before.before.before
 
-abbrev tested : tie.After-scan → tie.Else2
+abbrev tested : tie.After-scan → tie.Else-bytes-held
 tested c = c.before.before.before.before
 
 -- what the scan of the bytes held told, by its case
 scanned : (c : tie.After-scan) {x : Scanned} → c.scan.result ≡ x → let a = (start (tested c)).args in
     scan machine.begin (take a.held a.bytes.now) ≡ scan_of x
 scanned c e =
-    let b = c.before.before.before in let a = (start (tested c)).args in
+    let b = c in let a = (start (tested c)).args in
     ap (λ (st : machine.State). scan st (take a.held a.bytes.now)) (sym b.begin.ensures) ∙ (sym (rw sub-zero at c.scan.ensures) ∙ ap scan_of e)
 
-returns : tie.Need-returns
-returns c = let a = c.before.before.before.args in assembles-refused a.bytes.now a.held a.piece.now 0 (in-short a.bytes.now a.held a.piece.now (omega (arith, c.if1.true)))
+returns : tie.Need-returns-then-bytes-lt-SIZE
+returns c = let a = c.args in assembles-refused a.bytes.now a.held a.piece.now 0 (in-short a.bytes.now a.held a.piece.now (omega (arith, c.if-bytes-lt-SIZE.true)))
 
-returns-2 : tie.Need-returns-2
+returns-2 : tie.Need-returns-then-bytes-held
 returns-2 c =
-    let a = c.before.before.before.before.args in
-    assembles-refused a.bytes.now a.held a.piece.now 0 (in-beyond a.bytes.now a.held a.piece.now c.if2.true)
+    let a = c.args in
+    assembles-refused a.bytes.now a.held a.piece.now 0 (in-beyond a.bytes.now a.held a.piece.now c.if-bytes-held.true)
 
 scan-requires : tie.Need-scan-requires
-scan-requires c κs = let b = c.before.before in omega (arith, ap (λ (st : machine.State). st.used) b.begin.ensures, ap (λ (st : machine.State). need st.place) b.begin.ensures)
+scan-requires c κs = let b = c in omega (arith, ap (λ (st : machine.State). st.used) b.begin.ensures, ap (λ (st : machine.State). need st.place) b.begin.ensures)
 
 extend-requires : tie.Need-extend-requires
 extend-requires c κs =
-    let t = c.before.before in let s = t.before.before in let e = tested s in
-    record { room = e.before.if1.left; held = e.if2.left; state = scanned s t.state.given.1 }
+    let t = c in let s = t.before.before in let e = tested s in
+    record { room = e.if-bytes-lt-SIZE.left; held = e.if-bytes-held.left; state = scanned s t.in-More.is }
 
-returns-3 : tie.Need-returns-3
-returns-3 c = c.before.before.extend.ensures
+returns-3 : tie.Need-returns-in-More
+returns-3 c = c.extend.ensures
 
-returns-4 : tie.Need-returns-4
+returns-4 : tie.Need-returns-in-Whole
 returns-4 c =
-    let s = c.before.before in let e = tested s in let a = (start e).args in
-    assembles-improper a.bytes.now a.held a.piece.now e.before.if1.left e.if2.left _ (scanned s c.enum_told.given.1) refl
+    let s = c.before in let e = tested s in let a = (start e).args in
+    assembles-improper a.bytes.now a.held a.piece.now e.if-bytes-lt-SIZE.left e.if-bytes-held.left _ (scanned s c.in-Whole.is) refl
 
-returns-5 : tie.Need-returns-5
+returns-5 : tie.Need-returns-in-Dead
 returns-5 c =
-    let s = c.before.before in let e = tested s in let a = (start e).args in
-    assembles-improper a.bytes.now a.held a.piece.now e.before.if1.left e.if2.left _ (scanned s c.enum-told2.given.1) refl
+    let s = c.before in let e = tested s in let a = (start e).args in
+    assembles-improper a.bytes.now a.held a.piece.now e.if-bytes-lt-SIZE.left e.if-bytes-held.left _ (scanned s c.in-Dead.is) refl
 
-pub assemble-spec : {M : Type 1} → statement M
-assemble-spec =
+pub assemble_spec : {M : Type 1} → statement M
+assemble_spec =
     tie.close
     (tie.spec
     returns returns-2 (λ c κs. search rules) (λ c. search rules) (λ c. search rules) (λ c. search rules) scan-requires

@@ -5,10 +5,10 @@ use borrow.Author.Tests.{ne_eqb}
 use Rattle.assembler.proofs.command.Statement.{statement}
 use Rattle.assembler.proofs.command.Tie as tie
 
-pub command-spec : {M : Type 1} → statement M
-command-spec =
+pub command_spec : {M : Type 1} → statement M
+command_spec =
     tie.close
     (tie.spec
-    (λ c. search rules) (λ c. search rules) (λ c. search rules) (λ c. rw (c.before.if1.true, sub-zero))
+    (λ c. search rules) (λ c. search rules) (λ c. search rules) (λ c. rw (c.if-held-eq0.true, sub-zero))
     (λ c. search rules) (λ c. search rules) (λ c. search rules) (λ c. search rules)
-    (λ c. rw (ne_eqb c.before.before.args.held 0 c.before.if1.false, sub-zero)))
+    (λ c. rw (ne_eqb c.args.held 0 c.if-held-eq0.false, sub-zero)))

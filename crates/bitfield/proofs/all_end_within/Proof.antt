@@ -12,30 +12,30 @@ use Rattle.bitfield.proofs.Subcommands.{subs-next, subs-none}
 use Rattle.bitfield.proofs.all_end_within.Statement.{statement}
 use Rattle.bitfield.proofs.all_end_within.Tie as tie
 
-abbrev invariant-loop : tie.invariant-loop
+abbrev invariant-loop : tie.invariant-loop-i
 invariant-loop subs limit i₀ i = all_end_within limit (subs_from subs i (subs.count - i)) ≡ all_end_within limit (model_subs subs)
 
-abbrev decreases-loop : tie.decreases-loop
+abbrev decreases-loop : tie.decreases-loop-i
 decreases-loop subs limit i₀ i = subs.count - i
 
-abbrev start : tie.At-loop invariant-loop decreases-loop → tie.Start invariant-loop decreases-loop
+abbrev start : tie.At-loop-i invariant-loop decreases-loop → tie.Start invariant-loop decreases-loop
 start c = c.before
 
 -- the test of this one, and of those after it
-split : (c : tie.After-ends-within invariant-loop decreases-loop) {b : Bool} → c.ends-within.result ≡ b → let l = c.before.before.before.before in let a = (start l).args in
-    (b && all_end_within a.limit (subs_from a.subs (l.loop.i + 1) (a.subs.count - (l.loop.i + 1)))) ≡ all_end_within a.limit (model_subs a.subs)
+split : (c : tie.After-ends_within invariant-loop decreases-loop) {b : Bool} → c.ends_within.result ≡ b → let l = c.before.before.before.before in let a = (start l).args in
+    (b && all_end_within a.limit (subs_from a.subs (l.loop-i.i + 1) (a.subs.count - (l.loop-i.i + 1)))) ≡ all_end_within a.limit (model_subs a.subs)
 split c e =
     let l = c.before.before.before.before in let a = (start l).args in
-    let more = all_end_within a.limit (subs_from a.subs (l.loop.i + 1) (a.subs.count - (l.loop.i + 1))) in
-    ap (λ (b : Bool). b && more) (sym e ∙ (c.ends-within.ensures ∙ ap (λ (x : Sub). ends_within a.limit (model_sub x)) c.before.sub_at.ensures))
-    ∙ (sym (ap (all_end_within a.limit) (subs-next a.subs l.loop.i c.before.before.if1.true)) ∙ l.loop.invariant)
+    let more = all_end_within a.limit (subs_from a.subs (l.loop-i.i + 1) (a.subs.count - (l.loop-i.i + 1))) in
+    ap (λ (b : Bool). b && more) (sym e ∙ (c.ends_within.ensures ∙ ap (λ (x : Sub). ends_within a.limit (model_sub x)) c.sub_at.ensures))
+    ∙ (sym (ap (all_end_within a.limit) (subs-next a.subs l.loop-i.i c.loop-i-test.true)) ∙ l.loop-i.invariant)
 
-begin : tie.Need-loop-init invariant-loop decreases-loop
+begin : tie.Need-loop-i-init invariant-loop decreases-loop
 unfolding model_subs
 begin c = ap (λ (n : ℕ). all_end_within c.args.limit (subs_from c.args.subs 0 n)) (sub-zero c.args.subs.count)
 
-pub all-end-within-spec : {M : Type 1} → statement M
-all-end-within-spec =
+pub all_end_within_spec : {M : Type 1} → statement M
+all_end_within_spec =
     tie.close
     (tie.spec
     invariant-loop
@@ -43,8 +43,8 @@ all-end-within-spec =
     begin
     (λ c κs. search rules)
     (λ c κs. search rules)
-    (λ c. split c.before (not-true c.before.ends-within.result c.if2.true))
+    (λ c. split c.before (c.if-not-ends_within.true))
     (λ c. search rules)
     (λ c. search rules)
-    (λ c. split c.before (not-false c.before.ends-within.result c.if2.false))
-    (λ c. let l = c.before.before in ap (all_end_within (start l).args.limit) (sym (subs-none (start l).args.subs l.loop.i c.if1.false)) ∙ l.loop.invariant))
+    (λ c. split c.before (c.if-not-ends_within.false))
+    (λ c. let l = c.before.before in ap (all_end_within (start l).args.limit) (sym (subs-none (start l).args.subs l.loop-i.i c.loop-i-test.false)) ∙ l.loop-i.invariant))

@@ -20,18 +20,18 @@ moved at width bits h = go (leb at (bits - width)) refl
     go true e = sym (le-leb (at + width) bits (omega (arith, leb-true at (bits - width) e)))
     go false e = sym (lt-leb (at + width) bits (omega (arith, leb-false at (bits - width) e)))
 
-writes : (c : tie.At-match-keys2) → let a = c.before.args in ends_within a.limit (model_sub a.sub) ≡ leb (a.sub.field.offset + a.sub.field.int.width) (8 * a.limit)
-writes c = let a = c.before.args in writing-ends a.sub.operation (model_field a.sub.field) a.sub.number a.limit c.match.keys2
+writes : (c : tie.In_default) → let a = c.args in ends_within a.limit (model_sub a.sub) ≡ leb (a.sub.field.offset + a.sub.field.int.width) (8 * a.limit)
+writes c = let a = c.args in writing-ends a.sub.operation (model_field a.sub.field) a.sub.number a.limit c.in_default.in_default-own.keys2
 
-pub ends-within-spec : {M : Type 1} → statement M
-ends-within-spec =
+pub ends_within_spec : {M : Type 1} → statement M
+ends_within_spec =
     tie.close
     (tie.spec
     (λ c. search rules)
     (λ c. search rules)
     (λ c. search rules)
     (λ c. search rules)
-    (λ c. let k = c.before.before in let a = k.before.args in
-    sym (writes k ∙ lt-leb (a.sub.field.offset + a.sub.field.int.width) (8 * a.limit) (omega (arith, c.if1.true))))
-    (λ c. let k = c.before.before.before in let a = k.before.args in
-    moved a.sub.field.offset a.sub.field.int.width (8 * a.limit) (omega (arith, c.before.if1.false)) ∙ sym (writes k)))
+    (λ c. let k = c.before.before in let a = k.args in
+    sym (writes k ∙ lt-leb (a.sub.field.offset + a.sub.field.int.width) (8 * a.limit) (omega (arith, c.if-bits-width.true))))
+    (λ c. let k = c.before.before.before in let a = k.args in
+    moved a.sub.field.offset a.sub.field.int.width (8 * a.limit) (omega (arith, c.if-bits-width.false)) ∙ sym (writes k)))

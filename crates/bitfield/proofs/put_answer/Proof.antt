@@ -24,28 +24,28 @@ bytes a = scalar_bytes (result_scalar (result_of a))
 number-bytes : {a : Answered} {z : ℤ} → a ≡ Number z → SFits w64 z → scalar_bytes (integer (back z)) ≡ bytes a
 number-bytes e f = ap (λ (z : ℤ). scalar_bytes (integer z)) (back_is f) ∙ sym (ap bytes e)
 
-answer-is : (c : tie.After-known-told) → scalar_bytes (integer (back c.before.answered.given.0.0)) ≡ bytes c.before.before.before.before.args.answered
-answer-is c = number-bytes c.before.answered.given.1 (record { sfits = c.known-told.given.0.1 })
+answer-is : (c : tie.In-Number) → scalar_bytes (integer (back c.in-Number.z)) ≡ bytes c.args.answered
+answer-is c = number-bytes c.in-Number.is (record { sfits = c.in-Number.known_told-1-own.given.0.1 })
 
-nothing : (c : tie.After-enum-told) → scalar_bytes nil ≡ bytes c.before.before.before.args.answered
-nothing c = sym (ap bytes c.enum_told.given.1)
+nothing : (c : tie.In-Nil) → scalar_bytes nil ≡ bytes c.args.answered
+nothing c = sym (ap bytes c.in-Nil.is)
 
-returns : tie.Need-returns
-returns c = wrote_as (answer-is c.before.before.before.before) c.before.before.put-integer.ensures
+returns : tie.Need-returns-in-Number
+returns c = wrote_as (answer-is c.before.before.before.before) c.put_integer.ensures
 
-pub put-answer-spec : {M : Type 1} → statement M
-put-answer-spec =
+pub put_answer_spec : {M : Type 1} → statement M
+put_answer_spec =
     tie.close
     (tie.spec
     (λ c. search rules)
     (λ c κs.
-    let k = c.before in let s = k.before.before.before.before in
+    let k = c.before in let s = k in
     subst (λ (b : List ℕ). s.args.at + length b ≤ length s.args.text.now) (sym (answer-is k)) s.requires)
     (λ c. search rules)
     (λ c κs.
-    let k = c.before in let s = k.before.before.before in
+    let k = c.before in let s = k in
     subst (λ (b : List ℕ). s.args.at + length b ≤ length s.args.text.now) (sym (nothing k)) s.requires)
     (λ c. search rules)
     returns
     (λ c. search rules)
-    (λ c. wrote_as (nothing c.before.before.before.before) c.before.before.put-nil.ensures))
+    (λ c. wrote_as (nothing c.before.before.before.before) c.put_nil.ensures))

@@ -15,36 +15,36 @@ use Rattle.bitfield.proofs.Running.{Underway, begin, may-run, answer-room, next,
 use Rattle.bitfield.proofs.run.Statement.{statement}
 use Rattle.bitfield.proofs.run.Tie as tie
 
-abbrev invariant-loop : tie.invariant-loop
+abbrev invariant-loop : tie.invariant-loop-i
 invariant-loop value₀ len subs text₀ i₀ ran₀ value text i ran =
     Underway (run_subs (model_subs subs) (take len value₀)) (length value₀) text₀ (subs_from subs i (subs.count - i)) value text ran
 
-abbrev decreases-loop : tie.decreases-loop
+abbrev decreases-loop : tie.decreases-loop-i
 decreases-loop value₀ len subs text₀ i₀ ran₀ value text i ran = subs.count - i
 
-abbrev start : tie.At-loop invariant-loop decreases-loop → tie.Start invariant-loop decreases-loop
+abbrev start : tie.At-loop-i invariant-loop decreases-loop → tie.Start invariant-loop decreases-loop
 start c = c.before.before.before
 
-loop-holds : tie.Need-loop-init invariant-loop decreases-loop
+loop-holds : tie.Need-loop-i-init invariant-loop decreases-loop
 unfolding model_subs
 loop-holds c =
-    let s = c.before.before in
+    let s = c in
     let h = begin {old = s.args.text.now} (model_subs s.args.subs) s.requires.0 s.requires.1 (omega (arith, length-subs s.args.subs, s.requires.2)) in
     rw (sub-zero s.args.subs.count) h
 
 -- the next subcommand, and those after it
-going : (c : tie.After-sub-at invariant-loop decreases-loop) → let l = c.before.before.before.before in let s = start l in
+going : (c : tie.After-sub_at invariant-loop decreases-loop) → let l = c.before.before.before.before in let s = start l in
     Underway (run_subs (model_subs s.args.subs) (take s.args.len s.args.value.now)) (length s.args.value.now) s.args.text.now
-    (model_sub c.sub_at.result ∷ subs_from s.args.subs (l.loop.i + 1) (s.args.subs.count - (l.loop.i + 1))) l.loop.value l.loop.text l.loop.ran
+    (model_sub c.sub_at.result ∷ subs_from s.args.subs (l.loop-i.i + 1) (s.args.subs.count - (l.loop-i.i + 1))) l.loop-i.value l.loop-i.text l.loop-i.ran
 going c =
     let l = c.before.before.before.before in let s = start l in
-    let i = l.loop.i in
+    let i = l.loop-i.i in
     let rest = subs_from s.args.subs (i + 1) (s.args.subs.count - (i + 1)) in
     let e : subs_from s.args.subs i (s.args.subs.count - i) ≡ model_sub c.sub_at.result ∷ rest =
-    subs-next s.args.subs i c.before.before.if1.true ∙ ap (λ (x : Sub). model_sub x ∷ rest) (sym c.sub_at.ensures) in
+    subs-next s.args.subs i c.loop-i-test.true ∙ ap (λ (x : Sub). model_sub x ∷ rest) (sym c.sub_at.ensures) in
     subst
-    (λ (ss : List model.Sub). Underway (run_subs (model_subs s.args.subs) (take s.args.len s.args.value.now)) (length s.args.value.now) s.args.text.now ss l.loop.value l.loop.text l.loop.ran)
-    e l.loop.invariant
+    (λ (ss : List model.Sub). Underway (run_subs (model_subs s.args.subs) (take s.args.len s.args.value.now)) (length s.args.value.now) s.args.text.now ss l.loop-i.value l.loop-i.text l.loop-i.ran)
+    e l.loop-i.invariant
 
 pub run_spec : {M : Type 1} → statement M
 run_spec =
@@ -55,10 +55,10 @@ run_spec =
     loop-holds
     (λ c κs. search rules)
     (λ c κs. ((going c).clean, may-run (going c)))
-    (λ c κs. let r = c.before.before.before.before.before in answer-room (going r.before) r.run-sub.ensures)
+    (λ c κs. let r = c in answer-room (going r.before.before.before.before.before.before) r.run_sub-done.ensures)
     (λ c. search rules)
     (λ c. search rules)
-    (λ c. let p = c.before.before in let r = p.before.before.before.before.before.before in next (going r.before) r.run-sub.ensures p.put-answer.ensures cc)
-    (λ c. c.before.before.loop.invariant.size)
-    (λ c. c.before.before.loop.invariant.room)
-    (λ c. let l = c.before.before in finish (rw (subs-none (start l).args.subs l.loop.i c.if1.false) at l.loop.invariant)))
+    (λ c. let p = c in let r = p in next (going r.before.before.before.before.before.before.before.before.before) r.run_sub-done.ensures p.put_answer.ensures cc)
+    (λ c. c.loop-i.invariant.size)
+    (λ c. c.loop-i.invariant.room)
+    (λ c. let l = c.before.before in finish (rw (subs-none (start l).args.subs l.loop-i.i c.loop-i-test.false) at l.loop-i.invariant)))

@@ -11,23 +11,23 @@ use Rattle.bitfield.proofs.Padded.{front, length-held, held-clean}
 use Rattle.bitfield.proofs.run_stored.Statement.{statement}
 use Rattle.bitfield.proofs.run_stored.Tie as tie
 
-abbrev start : tie.After-load → tie.Start
+abbrev start : tie.After-load-len → tie.Start
 start c = c.before.before.before.before.before
 
 run-requires : tie.Need-run-requires
 run-requires c κs =
     let l = c.before.before.before.before in
     let s = start l in
-    (held-clean l.load.ensures s.pre.1.0.2, rw (length-held l.load.ensures) s.pre.1.1.0, s.pre.1.1.1)
+    (held-clean l.load-len.ensures s.requires.1.0.2, rw (length-held l.load-len.ensures) s.requires.1.1.0, s.requires.1.1.1)
 
 returns : tie.Need-returns
 returns c =
-    let r = c.before.before.before.before in
-    let l = r.before.before.before.before.before in
+    let r = c in
+    let l = r.before.before.before.before.before.before.before.before.before in
     let s = start l in
-    let h = l.load.ensures in
-    let p : (v : List ℕ) (n : ℕ) → Type 0 = λ v n. LeavesAll (run_subs (model_subs s.args.subs) v) n r.run.new.0 s.args.text.now r.run.new.1.1.1.0 r.run.result in
-    subst (λ (v : List ℕ). p v (length s.args.value.now)) (front h) (subst (p (take l.load.result l.load.new.1.1.0)) (length-held h) r.run.ensures)
+    let h = l.load-len.ensures in
+    let p : (v : List ℕ) (n : ℕ) → Type 0 = λ v n. LeavesAll (run_subs (model_subs s.args.subs) v) n r.run.new.value s.args.text.now r.run.new.text r.run.result in
+    subst (λ (v : List ℕ). p v (length s.args.value.now)) (front h) (subst (p (take l.load-len.result l.load-len.new.value)) (length-held h) r.run.ensures)
 
-pub run-stored-spec : {M : Type 1} → statement M
-run-stored-spec = tie.close (tie.spec (λ c κs. search rules) run-requires (λ c. search rules) (λ c. search rules) returns)
+pub run_stored_spec : {M : Type 1} → statement M
+run_stored_spec = tie.close (tie.spec (λ c κs. search rules) run-requires (λ c. search rules) (λ c. search rules) returns)

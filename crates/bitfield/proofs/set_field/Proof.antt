@@ -13,28 +13,28 @@ use Rattle.bitfield.proofs.Padded.{set_holds}
 use Rattle.bitfield.proofs.set_field.Statement.{statement}
 use Rattle.bitfield.proofs.set_field.Tie as tie
 
-abbrev start : tie.After-write-bits → tie.Start
+abbrev start : tie.After-write_bits → tie.Start
 start c = c.before.before.before.before.before
 
-bits_is : (c : tie.After-write-bits) → c.before.bits_of.result ≡ modulo (start c).args.z (modulus (model_int (start c).args.field.int))
-bits_is c = c.before.bits_of.ensures ∙ ap (λ (z : ℤ). modulo z (modulus (model_int (start c).args.field.int))) (back_is (start c).ranges.z)
+bits_is : (c : tie.After-write_bits) → c.bits_of.result ≡ modulo (start c).args.z (modulus (model_int (start c).args.field.int))
+bits_is c = c.bits_of.ensures ∙ ap (λ (z : ℤ). modulo z (modulus (model_int (start c).args.field.int))) (back_is (start c).ranges.z)
 
 returns : tie.Need-returns
 returns c =
     let w = c.before.before.before.before in
     let s = start w in
-    let bytes = w.write-bits.ensures ∙ ap (λ (x : ℕ). set_field_bits (model_field s.args.field) x s.args.value.now) (bits_is w) in
-    record { holds = set_holds s.pre.0 s.pre.1 s.args.z bytes c.max.ensures; wrote = refl; answered = ap some (back_is s.fits.answer) }
+    let bytes = w.write_bits.ensures ∙ ap (λ (x : ℕ). set_field_bits (model_field s.args.field) x s.args.value.now) (bits_is w) in
+    record { holds = set_holds s.requires.0 s.requires.1 s.args.z bytes c.max.ensures; wrote = refl; answered = ap some (back_is s.ranges.answer) }
 
-pub set-field-spec : {M : Type 1} → statement M
-set-field-spec =
+pub set_field_spec : {M : Type 1} → statement M
+set_field_spec =
     tie.close
     (tie.spec
     (λ c κs. search rules)
     (λ c κs. search rules)
     (λ c. search rules)
-    (λ c. let s = start c.before.before.before in omega (arith, s.pre.1.ends, s.pre.0.small))
-    (λ c. let s = start c.before.before.before in omega (arith, type-wide (model_int s.args.field.int) s.pre.1.typed))
+    (λ c. let s = start c.before.before.before in omega (arith, s.requires.1.ends, s.requires.0.small))
+    (λ c. let s = start c.before.before.before in omega (arith, type-wide (model_int s.args.field.int) s.requires.1.typed))
     (λ c. search rules)
     (λ c κs. search rules)
     (λ c. search rules)

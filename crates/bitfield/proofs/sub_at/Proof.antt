@@ -18,11 +18,11 @@ last s (suc (suc (suc (suc i)))) a b c = refl
 at : (s : Subs) {i j : ℕ} → i ≡ j → get_or (places s) j s.fourth ≡ get_or (places s) i s.fourth
 at s e = ap (λ (i : ℕ). get_or (places s) i s.fourth) (sym e)
 
-pub sub-at-spec : {M : Type 1} → statement M
-sub-at-spec =
+pub sub_at_spec : {M : Type 1} → statement M
+sub_at_spec =
     tie.close
     (tie.spec
-    (λ c. at c.before.before.args.subs c.before.match.keys1)
-    (λ c. at c.before.before.args.subs c.before.match.keys2)
-    (λ c. at c.before.before.args.subs c.before.match.keys3)
-    (λ c. let r = c.before.match.rest in last c.before.before.args.subs c.before.before.args.i r.0.0.1 r.0.1 r.1))
+    (λ c. at c.args.subs c.in-0.is)
+    (λ c. at c.args.subs c.in-1.is)
+    (λ c. at c.args.subs c.in-2.is)
+    (λ c. let r = c.in_default.in_default-own.rest in last c.args.subs c.args.i r.0.0.1 r.0.1 r.1))

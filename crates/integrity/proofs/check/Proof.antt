@@ -28,98 +28,98 @@ use borrow.Author.Rules.{rules}
 use Rattle.integrity.proofs.check.Statement.{statement}
 use Rattle.integrity.proofs.check.Tie as tie
 
-abbrev invariant-loop : tie.invariant-loop
+abbrev invariant-loop : tie.invariant-loop-above
 invariant-loop table form heads₀ next₀ n above₀ heads next above =
     (above ≤ n) × (length heads ≡ length heads₀) × (length next ≡ length next₀) × Passed (form_of form) table heads next above
 
-abbrev decreases-loop : tie.decreases-loop
+abbrev decreases-loop : tie.decreases-loop-above
 decreases-loop table form heads₀ next₀ n above₀ heads next above = above
 
 -- ---- the length
 
 -- whole records, as many as the model counts
-whole-told : (c : tie.Else1 invariant-loop decreases-loop) → let s = c.before.before.before.before.before.before in
+whole-told : (c : tie.Else-n-size invariant-loop decreases-loop) → let s = c in
     eqb (length s.args.table.now % record_size (form_of s.args.form)) 0 ≡ true
 whole-told c =
-    let s = c.before.before.before.before.before.before in
-    eq-eqb _ _ (whole (form_of s.args.form) (length s.args.table.now) _ _ c.before.before.count.ensures c.before.size.ensures c.if1.false)
+    let s = c in
+    eq-eqb _ _ (whole (form_of s.args.form) (length s.args.table.now) _ _ c.count-n.ensures c.size.ensures c.if-n-size.false)
 
-count-told : (c : tie.Else1 invariant-loop decreases-loop) → let s = c.before.before.before.before.before.before in
-    count_of (form_of s.args.form) s.args.table.now ≡ c.before.before.count.result
-count-told c = sym c.before.before.count.ensures
+count-told : (c : tie.Else-n-size invariant-loop decreases-loop) → let s = c in
+    count_of (form_of s.args.form) s.args.table.now ≡ c.count-n.result
+count-told c = sym c.count-n.ensures
 
-sizes-told : (c : tie.Else3 invariant-loop decreases-loop) → let s = c.before.before.before.before.before.before.before.before in
+sizes-told : (c : tie.Else-n-gt-TABLE_LIMIT invariant-loop decreases-loop) → let s = c in
     all (size_rules (form_of s.args.form) s.args.table.now) ≡ true
 sizes-told c =
-    let n = c.before.before.before.before.count.result in
+    let n = c.count-n.result in
     rw (whole-told c.before.before, count-told c.before.before, le-leb 1 n (omega arith), le-leb n 256 (omega arith))
 
-mul-if1 : tie.Need-overflow-mul-if1 invariant-loop decreases-loop
+mul-if1 : tie.Need-overflow_mul-n invariant-loop decreases-loop
 mul-if1 c =
-    let s = c.before.before.before.before.before in
-    rw (c.size.ensures, c.before.count.ensures) (record { fits = omega (arith, div-add-mod' (length s.args.table.now) (record_size (form_of s.args.form))) })
+    let s = c in
+    rw (c.size.ensures, c.count-n.ensures) (record { fits = omega (arith, div-add-mod' (length s.args.table.now) (record_size (form_of s.args.form))) })
 
 -- an answer that refuses the table
 refused : (s : tie.Start invariant-loop decreases-loop) {heads next : List ℕ} → let f = form_of s.args.form in faultless f s.args.table.now ≡ false
     → Checks f s.args.table.now heads next false
 refused s e = record { answer = sym e; index = λ z. never true refl (sym z) }
 
-returns : tie.Need-returns invariant-loop decreases-loop
+returns : tie.Need-returns-then-n-size invariant-loop decreases-loop
 returns c =
     let s = c.before.before.before.before.before.before in
     let f = form_of s.args.form in
     let t = s.args.table.now in
-    refused s (wrong_size f t (rw (ne_eqb _ _ (not-whole f (length t) _ _ c.before.before.count.ensures c.before.size.ensures c.if1.true))))
+    refused s (wrong_size f t (rw (ne_eqb _ _ (not-whole f (length t) _ _ c.count-n.ensures c.size.ensures c.if-n-size.true))))
 
-returns-2 : tie.Need-returns-2 invariant-loop decreases-loop
+returns-2 : tie.Need-returns-then-n-lt1 invariant-loop decreases-loop
 returns-2 c =
     let s = c.before.before.before.before.before.before.before in
-    refused s (wrong_size (form_of s.args.form) s.args.table.now (rw (whole-told c.before, count-told c.before, lt-leb 1 c.before.before.before.count.result (omega arith))))
+    refused s (wrong_size (form_of s.args.form) s.args.table.now (rw (whole-told c.before, count-told c.before, lt-leb 1 c.count-n.result (omega arith))))
 
-returns-3 : tie.Need-returns-3 invariant-loop decreases-loop
+returns-3 : tie.Need-returns-then-n-gt-TABLE_LIMIT invariant-loop decreases-loop
 returns-3 c =
     let s = c.before.before.before.before.before.before.before.before in
-    let n = c.before.before.before.before.count.result in
+    let n = c.count-n.result in
     refused s (wrong_size (form_of s.args.form) s.args.table.now
     (rw (whole-told c.before.before, count-told c.before.before, le-leb 1 n (omega arith), lt-leb n 256 (omega arith))))
 
-loop-holds : tie.Need-loop-init invariant-loop decreases-loop
+loop-holds : tie.Need-loop-above-init invariant-loop decreases-loop
 loop-holds c =
-    let s = c.before.before.before.before.before.before.before.before in
+    let s = c in
     let n = count-told c.before.before in
-    (omega arith, refl, refl, subst (Passed (form_of s.args.form) s.args.table.now _ _) n (passed_none (form_of s.args.form) s.args.table.now s.requires (omega (arith, n, c.if3.false))))
+    (omega arith, refl, refl, subst (Passed (form_of s.args.form) s.args.table.now _ _) n (passed_none (form_of s.args.form) s.args.table.now s.requires (omega (arith, n, c.if-n-gt-TABLE_LIMIT.false))))
 
 -- ---- a turn
 
 -- the slot is one of the table's
-within : (l : tie.In-loop invariant-loop decreases-loop) → let s = l.before.before.before.before.before.before.before.before.before.before in
-    l.before.loop.above - 1 < count_of (form_of s.args.form) s.args.table.now
-within l = omega (arith, count-told l.before.before.before.before, l.before.loop.invariant.0)
+within : (l : tie.In-loop-above invariant-loop decreases-loop) → let s = l in
+    l.loop-above.above - 1 < count_of (form_of s.args.form) s.args.table.now
+within l = omega (arith, count-told l.before.before.before.before, l.loop-above.invariant.0)
 
-slot-requires : tie.Need-slot-requires invariant-loop decreases-loop
+slot-requires : tie.Need-slot-r-requires invariant-loop decreases-loop
 slot-requires c κs =
-    let s = c.before.before.before.before.before.before.before.before.before.before in
-    inside-count (form_of s.args.form) s.args.table.now (c.before.loop.above - 1) (within c)
+    let s = c in
+    inside-count (form_of s.args.form) s.args.table.now (c.loop-above.above - 1) (within c)
 
 enter-requires : tie.Need-enter-requires invariant-loop decreases-loop
 enter-requires c κs =
     let l = c.before.before.before in
-    let s = l.before.before.before.before.before.before.before.before.before.before in
+    let s = l in
     let f = form_of s.args.form in
     let t = s.args.table.now in
-    let x = l.before.loop.invariant.3.index in (
-      ap length c.before.before.slot.ensures ∙ length-slot f t (l.before.loop.above - 1) (inside-count f t _ (within l)),
-      omega (arith, l.before.loop.invariant.0, l.before.before.if3.false),
+    let x = l.loop-above.invariant.3.index in (
+      ap length c.slot-r.ensures ∙ length-slot f t (l.loop-above.above - 1) (inside-count f t _ (within l)),
+      omega (arith, l.loop-above.invariant.0, l.if-n-gt-TABLE_LIMIT.false),
       x.some,
       omega (arith, x.room, within l),
-      l.before.loop.invariant.3.blank (l.before.loop.above - 1) (omega arith),
+      l.loop-above.invariant.3.blank (l.loop-above.above - 1) (omega arith),
     )
 
 module _ (e : tie.After-enter invariant-loop decreases-loop) where
   abbrev s : tie.Start invariant-loop decreases-loop
   s = e.before.before.before.before.before.before.before.before.before.before.before.before.before.before
 
-  abbrev l : tie.In-loop invariant-loop decreases-loop
+  abbrev l : tie.In-loop-above invariant-loop decreases-loop
   l = e.before.before.before.before
 
   abbrev f : Form
@@ -129,28 +129,28 @@ module _ (e : tie.After-enter invariant-loop decreases-loop) where
   t = s.args.table.now
 
   abbrev i : ℕ
-  i = l.before.loop.above - 1
+  i = l.loop-above.above - 1
 
   abbrev heads' : List ℕ
-  heads' = e.enter.last.1.1.1.0
+  heads' = e.enter.new.heads
 
   abbrev next' : List ℕ
-  next' = e.enter.last.1.1.1.1.0
+  next' = e.enter.new.next
 
   -- what the test says of the slot
-  told : {x : Entered} → e.enter.result ≡ x → Tests f i (record_at f i t) l.before.loop.heads l.before.loop.next heads' next' x
+  told : {x : Entered} → e.enter.result ≡ x → Tests f i (record_at f i t) l.loop-above.heads l.loop-above.next heads' next' x
   told q =
-      subst (Tests f i (record_at f i t) l.before.loop.heads l.before.loop.next heads' next') q
-      (subst (λ (b : List ℕ). Tests f i b l.before.loop.heads l.before.loop.next heads' next' e.enter.result) e.before.before.before.slot.ensures e.enter.ensures)
+      subst (Tests f i (record_at f i t) l.loop-above.heads l.loop-above.next heads' next') q
+      (subst (λ (b : List ℕ). Tests f i b l.loop-above.heads l.loop-above.next heads' next' e.enter.result) e.slot-r.ensures e.enter.ensures)
 
-  passed : Passed f t l.before.loop.heads l.before.loop.next (i + 1)
-  passed = let above : l.before.loop.above ≡ i + 1 = omega arith in subst (Passed f t l.before.loop.heads l.before.loop.next) above l.before.loop.inv.3
+  passed : Passed f t l.loop-above.heads l.loop-above.next (i + 1)
+  passed = let above : l.loop-above.above ≡ i + 1 = omega arith in subst (Passed f t l.loop-above.heads l.loop-above.next) above l.loop-above.invariant.3
 
   same-heads : length heads' ≡ length s.args.heads.now
-  same-heads = e.enter.kept.1.1.1.0 ∙ l.before.loop.inv.1
+  same-heads = e.enter.auto.heads ∙ l.loop-above.invariant.1
 
   same_next : length next' ≡ length s.args.next.now
-  same_next = e.enter.kept.1.1.1.1.0 ∙ l.before.loop.inv.2
+  same_next = e.enter.auto.next ∙ l.loop-above.invariant.2
 
   -- the slot is in use, and its bucket's chain began with `first`
   module _ {first : ℕ} (q : e.enter.result ≡ After first) where
@@ -181,70 +181,69 @@ module _ (e : tie.After-enter invariant-loop decreases-loop) where
 
 key-requires : tie.Need-key-requires invariant-loop decreases-loop
 key-requires c κs =
-    let e = c.before.before.before.before.before.before.before.before in
-    subst InUse (sym e.before.before.before.slot.ensures) (record-in-use e c.before.before.first.given.1)
+    let e = c.before.before.before.before.before in
+    subst InUse (sym e.slot-r.ensures) (record-in-use e c.in-After.is)
 
 -- the key that is sought
-key-told : (c : tie.After-key invariant-loop decreases-loop) → let e = c.before.before.before.before.before.before.before.before.before in
+key-told : (c : tie.After-key invariant-loop decreases-loop) → let e = c.before.before.before.before.before.before in
     c.key.result.now ≡ (fields (record_at (f e) (i e) (t e))).key
 key-told c =
-    let e = c.before.before.before.before.before.before.before.before.before in
-    c.key.ensures ∙ ap (λ (b : List ℕ). (fields b).key) e.before.before.before.slot.ensures
+    let e = c in
+    c.key.ensures ∙ ap (λ (b : List ℕ). (fields b).key) e.slot-r.ensures
 
-search-chain-requires : tie.Need-search-chain-requires invariant-loop decreases-loop
+search-chain-requires : tie.Need-search_chain-requires invariant-loop decreases-loop
 search-chain-requires c κs =
-    let e = c.before.before.before.before.before.before.before.before.before in
-    subst (Chain (f e) (t e) (next' e) c.before.before.before.first.given.0.0) (sym (key-told c)) (chain-told e c.before.before.before.first.given.1)
+    let e = c.before.before.before.before.before.before in
+    subst (Chain (f e) (t e) (next' e) c.in-After.first) (sym (key-told c)) (chain-told e c.in-After.is)
 
 -- what the search says of the slots passed
-found : (c : tie.After-search-chain invariant-loop decreases-loop) → let e = c.before.before.before.before.before.before.before.before.before.before in
-    entry_from (key_is (f e) (t e) (fields (record_at (f e) (i e) (t e))).key) (count_of (f e) (t e)) (i e + 1) ≡ c.search-chain.result
+found : (c : tie.After-search_chain invariant-loop decreases-loop) → let e = c.before.before.before.before.before.before.before in
+    entry_from (key_is (f e) (t e) (fields (record_at (f e) (i e) (t e))).key) (count_of (f e) (t e)) (i e + 1) ≡ c.search_chain.result
 found c =
-    let e = c.before.before.before.before.before.before.before.before.before.before in
-    let first = c.before.before.before.before.first.given in
-    twin-told e first.1 ∙ sym (c.search-chain.ensures ∙ ap (λ (k : List ℕ). key_entry (f e) (t e) k first.0.0) (key-told c.before))
+    let e = c.before.before.before.before.before.before.before in
+    twin-told e c.in-After.is ∙ sym (c.search_chain.ensures ∙ ap (λ (k : List ℕ). key_entry (f e) (t e) k c.in-After.first) (key-told c.before))
 
-returns-4 : tie.Need-returns-4 invariant-loop decreases-loop
+returns-4 : tie.Need-returns-then-search_chain-ne0 invariant-loop decreases-loop
 returns-4 c =
-    let e = c.before.before.before.before.before.before.before.before.before.before.before in
-    refused (s e) (twin-refused e c.before.before.before.before.before.first.given.1 (omega (arith, found c.before, c.if4.true)))
+    let e = c.before.before.before.before.before.before.before.before in
+    refused (s e) (twin-refused e c.in-After.is (omega (arith, found c.before, c.if-search_chain-ne0.true)))
 
 -- the invariant after the turn
 again : (e : tie.After-enter invariant-loop decreases-loop) → Passed (f e) (t e) (heads' e) (next' e) (i e)
-    → (i e ≤ (l e).before.before.before.before.before.before.count.result) × (length (heads' e) ≡ length (s e).args.heads.now)
+    → (i e ≤ (l e).count-n.result) × (length (heads' e) ≡ length (s e).args.heads.now)
     × (length (next' e) ≡ length (s e).args.next.now) × Passed (f e) (t e) (heads' e) (next' e) (i e)
-again e p = (omega (arith, (l e).before.loop.invariant.0), same-heads e, same_next e, p)
+again e p = (omega (arith, (l e).loop-above.invariant.0), same-heads e, same_next e, p)
 
-loop-again : tie.Need-loop-preserved invariant-loop decreases-loop
+loop-again : tie.Need-loop-above-preserved-in-Alone invariant-loop decreases-loop
 loop-again c =
-    let e = c.before.before.before.before.before.before in
-    let a = told e c.enum_told.given.1 in
+    let e = c.before.before.before.before.before in
+    let a = told e c.in-Alone.is in
     again e (passed-alone _ _ _ (within (l e)) (lawful-form (s e).args.form) a.0 (passed e) a.1)
 
-loop-again-2 : tie.Need-loop-preserved-2 invariant-loop decreases-loop
+loop-again-2 : tie.Need-loop-above-preserved invariant-loop decreases-loop
 loop-again-2 c =
-    let e = c.before.before.before.before.before.before.before.before.before.before.before in
-    again e (twin-passed e c.before.before.before.before.before.first.given.1 (found c.before ∙ omega arith))
+    let e = c.before.before.before.before.before.before.before.before in
+    again e (twin-passed e c.in-After.is (found c.before ∙ omega arith))
 
-returns-6 : tie.Need-returns-6 invariant-loop decreases-loop
+returns-6 : tie.Need-returns invariant-loop decreases-loop
 returns-6 c =
-    let s = c.before.before.before.before.before.before.before.before.before.before in
-    let all : c.before.loop.above ≡ 0 = omega arith in
-    let p = subst (Passed (form_of s.args.form) s.args.table.now c.before.loop.heads c.before.loop.next) all c.before.loop.invariant.3 in
+    let s = c in
+    let all : c.loop-above.above ≡ 0 = omega arith in
+    let p = subst (Passed (form_of s.args.form) s.args.table.now c.loop-above.heads c.loop-above.next) all c.loop-above.invariant.3 in
     record { answer = sym (passed-all _ _ (sizes-told c.before.before) p); index = λ _. p.index }
 
-pub check-spec : {M : Type 1} → statement M
-check-spec =
+pub check_spec : {M : Type 1} → statement M
+check_spec =
     tie.close
     (tie.spec
     invariant-loop decreases-loop (λ c κs. search rules) (λ c κs. search rules) mul-if1 returns returns-2 returns-3 loop-holds (λ c. search rules) slot-requires
     enter-requires (λ c. search rules) (λ c. search rules) key-requires search-chain-requires
-    (λ c. same-heads c.before.before.before.before.before.before.before.before.before.before.before)
-    (λ c. same_next c.before.before.before.before.before.before.before.before.before.before.before)
+    (λ c. same-heads c.before.before.before.before.before.before.before.before)
+    (λ c. same_next c.before.before.before.before.before.before.before.before)
     returns-4
     (λ c. search rules)
-    (λ c. same-heads c.before.before.before.before.before.before)
-    (λ c. same_next c.before.before.before.before.before.before)
-    (λ c. let e = c.before.before.before.before.before.before in refused (s e) (not-read _ _ _ (within (l e)) (told e c.enum-told2.given.1)))
+    (λ c. same-heads c.before.before.before.before.before)
+    (λ c. same_next c.before.before.before.before.before)
+    (λ c. let e = c.before.before.before.before.before in refused (s e) (not-read _ _ _ (within (l e)) (told e c.in-Damaged.is)))
     (λ c. search rules) loop-again (λ c. search rules) loop-again-2
-    (λ c. c.before.loop.invariant.1) (λ c. c.before.loop.invariant.2) returns-6)
+    (λ c. c.loop-above.invariant.1) (λ c. c.loop-above.invariant.2) returns-6)

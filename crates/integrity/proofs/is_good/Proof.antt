@@ -6,10 +6,10 @@ use Rattle.integrity.proofs.Arrays.{fresh}
 use Rattle.integrity.proofs.is_good.Statement.{statement}
 use Rattle.integrity.proofs.is_good.Tie as tie
 
-pub is-good-spec : {M : Type 1} → statement M
-is-good-spec =
+pub is_good_spec : {M : Type 1} → statement M
+is_good_spec =
     tie.close
     (tie.spec
     (λ c. search rules) (λ c. search rules)
-    (λ c κs. let a = c.before.before.before.args in fresh (form_of a.form) a.table.now 2048 256 (omega arith) (λ h. h))
-    (λ c. c.before.before.check.ensures.answer))
+    (λ c κs. let a = c.args in fresh (form_of a.form) a.table.now 2048 256 (omega arith) (λ h. h))
+    (λ c. c.check.ensures.answer))

@@ -13,22 +13,22 @@ use Rattle.live.proofs.admit.Statement.{statement}
 use Rattle.live.proofs.admit.Tie as tie
 
 -- what the two tests come to
-by : (c : tie.After-agrees) (a b : Bool) → c.before.allowed.result ≡ a → c.agrees.result ≡ b → (next : Checked Effect)
-    → admitted (admission a b) next ≡ admit (model_terms c.before.before.args.terms) (stored_in c.before.before.args.found) next
-by c a b p q = admits (model_terms c.before.before.args.terms) (stored_in c.before.before.args.found) a b (sym p ∙ c.before.allowed.ensures) (sym q ∙ c.agrees.ensures)
+by : (c : tie.After-agrees-agrees) (a b : Bool) → c.allowed-allowed.result ≡ a → c.agrees-agrees.result ≡ b → (next : Checked Effect)
+    → admitted (admission a b) next ≡ admit (model_terms c.args.terms) (stored_in c.args.found) next
+by c a b p q = admits (model_terms c.args.terms) (stored_in c.args.found) a b (sym p ∙ c.allowed-allowed.ensures) (sym q ∙ c.agrees-agrees.ensures)
 
-returns-2 : tie.Need-returns-2
-returns-2 c = by c.before.before true false (not-false _ c.before.if1.false) (not-true _ c.if2.true)
+returns-2 : tie.Need-returns-then-not-agrees
+returns-2 c = by c.before.before true false (c.if-not-allowed.false) (c.if-not-agrees.true)
 
-returns-3 : tie.Need-returns-3
-returns-3 c = by c.before.before true true (not-false _ c.before.if1.false) (not-false _ c.if2.false)
+returns-3 : tie.Need-returns
+returns-3 c = by c.before.before true true (c.if-not-allowed.false) (c.if-not-agrees.false)
 
-pub admit-spec : {M : Type 1} → statement M
-admit-spec =
+pub admit_spec : {M : Type 1} → statement M
+admit_spec =
     tie.close
     (tie.spec
     (λ c κs. search rules)
     (λ c κs. search rules)
-    (λ c. by c.before false _ (not-true _ c.if1.true) refl)
+    (λ c. by c.before false _ (c.if-not-allowed.true) refl)
     returns-2
     returns-3)

@@ -3,8 +3,8 @@ use borrow.Author.Rules.{rules}
 use Rattle.live.proofs.agrees.Statement.{statement}
 use Rattle.live.proofs.agrees.Tie as tie
 
-pub agrees-spec : {M : Type 1} → statement M
-agrees-spec =
+pub agrees_spec : {M : Type 1} → statement M
+agrees_spec =
     tie.close
     (tie.spec
     (λ c. search rules)
@@ -13,4 +13,4 @@ agrees-spec =
     (λ c κs. search rules)
     (λ c. search rules)
     (λ c. search rules)
-    (λ c. rw c.before.before.change.given.1 c.has-version.ensures))
+    (λ c. rw c.in-RaiseFrom.is c.has_version.ensures))

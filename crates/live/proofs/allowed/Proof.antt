@@ -5,11 +5,11 @@ use Rattle.live.proofs.Writes.{if-absent}
 use Rattle.live.proofs.allowed.Statement.{statement}
 use Rattle.live.proofs.allowed.Tie as tie
 
-returns-2 : tie.Need-returns-2
-returns-2 c = rw (c.before.enum-told2.given.1, c.is_live.ensures) (if-absent (stored_in c.before.before.before.args.found))
+returns-2 : tie.Need-returns-in-IfAbsent
+returns-2 c = rw (c.in-IfAbsent.is, c.is_live.ensures) (if-absent (stored_in c.args.found))
 
-pub allowed-spec : {M : Type 1} → statement M
-allowed-spec =
+pub allowed_spec : {M : Type 1} → statement M
+allowed_spec =
     tie.close
     (tie.spec
     (λ c. search rules)

@@ -4,13 +4,13 @@ use mathlib.Core.Path.{sym}
 use Rattle.live.proofs.has_version.Statement.{statement}
 use Rattle.live.proofs.has_version.Tie as tie
 
-pub has-version-spec : {M : Type 1} → statement M
-has-version-spec =
+pub has_version_spec : {M : Type 1} → statement M
+has_version_spec =
     tie.close
     (tie.spec
     (λ c. search rules)
     (λ c. search rules)
     (λ c. search rules)
-    (λ c. sym (rw c.before.before.found.given.1))
+    (λ c. sym (rw c.in-Live.is))
     (λ c. search rules)
     (λ c. search rules))

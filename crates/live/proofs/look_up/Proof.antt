@@ -11,40 +11,40 @@ use Rattle.live.proofs.Looking.{is-absent, is_live, is-expired}
 use Rattle.live.proofs.look_up.Statement.{statement}
 use Rattle.live.proofs.look_up.Tie as tie
 
-abbrev start : tie.After-slot → tie.Start
-start c = c.before.before.before.before.before.before.before
+abbrev start : tie.In-At → tie.Start
+start c = c.before.before.before.before.before.before
 
 -- the slot that was found
-at : (c : tie.After-slot) → some c.slot.given.0.0 ≡ key_slot (start c).args.key.now (slots_of (form_of (start c).args.form) (start c).args.table.now)
-at c = ap slot_of (sym c.slot.given.1) ∙ c.before.before.find.ensures
+at : (c : tie.In-At) → some c.in-At.slot ≡ key_slot (start c).args.key.now (slots_of (form_of (start c).args.form) (start c).args.table.now)
+at c = ap slot_of (sym c.in-At.is) ∙ c.find.ensures
 
-returns : tie.Need-returns
+returns : tie.Need-returns-in_default
 returns c =
-    let s = c.before.before.before.before.before.before.before in
-    is-absent _ s.args.table.now s.requires.0 s.args.time s.args.key.now (ap slot_of (sym c.enum_told.given.1) ∙ c.before.before.find.ensures)
+    let s = c in
+    is-absent _ s.args.table.now s.requires.0 s.args.time s.args.key.now (ap slot_of (sym c.in_default.is) ∙ c.find.ensures)
 
-record-at-requires : tie.Need-record-at-requires
+record-at-requires : tie.Need-record_at-r-requires
 record-at-requires c κs =
-    let s = start c.before in
-    (s.pre.0, (found_at _ s.args.table.now s.args.key.now _ (at c.before)).in_use)
+    let s = start c in
+    (s.requires.0, (found_at _ s.args.table.now s.args.key.now _ (at c)).in_use)
 
-returns-2 : tie.Need-returns-2
+returns-2 : tie.Need-returns-then-is_live
 returns-2 c =
-    let r = c.before.before.before in
-    let s = start r.before.before in
-    is_live _ s.args.table.now s.pre.0 s.args.time s.args.key.now _ (at r.before.before) _
-    (c.before.before.attributes-of.ensures ∙ ap attributes_of r.record-at.ensures.is)
-    (ap (live s.args.time) (sym r.record-at.ensures.is) ∙ (sym c.before.is_live.ensures ∙ c.if1.true))
+    let r = c in
+    let s = start r.before.before.before.before in
+    is_live _ s.args.table.now s.requires.0 s.args.time s.args.key.now _ (at r.before.before.before.before) _
+    (c.attributes_of-attributes.ensures ∙ ap attributes_of r.record_at-r.ensures.is)
+    (ap (live s.args.time) (sym r.record_at-r.ensures.is) ∙ (sym c.is_live.ensures ∙ c.if-is_live.true))
 
-returns-3 : tie.Need-returns-3
+returns-3 : tie.Need-returns
 returns-3 c =
-    let r = c.before.before.before in
-    let s = start r.before.before in
-    is-expired _ s.args.table.now s.pre.0 s.args.time s.args.key.now _ (at r.before.before)
-    (ap (live s.args.time) (sym r.record-at.ensures.is) ∙ (sym c.before.is_live.ensures ∙ c.if1.false))
+    let r = c in
+    let s = start r.before.before.before.before in
+    is-expired _ s.args.table.now s.requires.0 s.args.time s.args.key.now _ (at r.before.before.before.before)
+    (ap (live s.args.time) (sym r.record_at-r.ensures.is) ∙ (sym c.is_live.ensures ∙ c.if-is_live.false))
 
-pub look-up-spec : {M : Type 1} → statement M
-look-up-spec =
+pub look_up_spec : {M : Type 1} → statement M
+look_up_spec =
     tie.close
     (tie.spec
     (λ c κs. search rules)

@@ -5,11 +5,11 @@ use Rattle.live.proofs.Writes.{rises, stays}
 use Rattle.live.proofs.one_higher.Statement.{statement}
 use Rattle.live.proofs.one_higher.Tie as tie
 
-pub one-higher-spec : {M : Type 1} → statement M
-one-higher-spec =
+pub one_higher_spec : {M : Type 1} → statement M
+one_higher_spec =
     tie.close
     (tie.spec
     (λ c. search rules)
     (λ c. search rules)
-    (λ c. rises c.before.args.version (omega (arith, c.if1.true)))
-    (λ c. stays c.before.args.version (omega (arith, c.if1.false))))
+    (λ c. rises c.args.version (omega (arith, c.if-version.true)))
+    (λ c. stays c.args.version (omega (arith, c.if-version.false))))

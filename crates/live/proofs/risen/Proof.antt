@@ -3,14 +3,14 @@ use borrow.Author.Rules.{rules}
 use Rattle.live.proofs.risen.Statement.{statement}
 use Rattle.live.proofs.risen.Tie as tie
 
-pub risen-spec : {M : Type 1} → statement M
-risen-spec =
+pub risen_spec : {M : Type 1} → statement M
+risen_spec =
     tie.close
     (tie.spec
     (λ c. search rules)
     (λ c κs. search rules)
     (λ c. search rules)
     (λ c. search rules)
-    (λ c. λ e. rw c.before.before.found.given.1 c.one-higher.ensures)
-    (λ c. λ e. rw c.enum_told.given.1)
-    (λ c. λ e. rw c.enum-told2.given.1))
+    (λ c. λ e. rw c.in-Live.is c.one_higher.ensures)
+    (λ c. λ e. rw c.in-Expired.is)
+    (λ c. λ e. rw c.in-Absent.is))

@@ -4,8 +4,8 @@ use mathlib.Core.Option.{none, some}
 use Rattle.live.proofs.version_after.Statement.{statement}
 use Rattle.live.proofs.version_after.Tie as tie
 
-pub version-after-spec : {M : Type 1} → statement M
-version-after-spec =
+pub version_after_spec : {M : Type 1} → statement M
+version_after_spec =
     tie.close
     (tie.spec
     (λ c. search rules)
@@ -13,6 +13,6 @@ version-after-spec =
     (λ c κs. search rules)
     (λ c. search rules)
     (λ c κs. search rules)
-    (λ c. rw c.before.change.given.1)
-    (λ c. rw c.before.enum_told.given.1 (c.risen.ensures none))
-    (λ c. rw c.before.enum-told2.given.1 (c.risen2.ensures (some c.before.enum-told2.given.0.0))))
+    (λ c. rw c.in-Set.is)
+    (λ c. rw c.in-Raise.is (c.risen.ensures none))
+    (λ c. rw c.in-RaiseFrom.is (c.risen-in-RaiseFrom.ensures (some c.in-RaiseFrom.field-0))))

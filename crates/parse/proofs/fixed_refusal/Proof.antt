@@ -18,27 +18,27 @@ abbrev words : tie.Start → List (List ℕ)
 words c = words_of c.args.s.now
 
 -- test 6
-counted : (c : tie.After-count-ok) {b : Bool} → c.count-ok.result ≡ b → let s = c.before.before in b ≡ count_ok (model_rule s.args.rule) (length (words s))
-counted c e = let s = c.before.before in sym e ∙ (c.count-ok.ensures ∙ λ i. count_ok (model_rule s.args.rule) (s.requires.1 i))
+counted : (c : tie.After-count_ok) {b : Bool} → c.count_ok.result ≡ b → let s = c.before.before in b ≡ count_ok (model_rule s.args.rule) (length (words s))
+counted c e = let s = c in sym e ∙ (c.count_ok.ensures ∙ λ i. count_ok (model_rule s.args.rule) (s.requires.1 i))
 
 -- test 7
-sized : (c : tie.After-sizes-ok) {b : Bool} → c.sizes-ok.result ≡ b → let s = c.before.before.before.before.before.before in
+sized : (c : tie.After-sizes_ok) {b : Bool} → c.sizes_ok.result ≡ b → let s = c.before.before.before.before.before.before in
     b ≡ sizes_ok (form_of s.args.form) (model_rule s.args.rule) (length (word_at 1 (words s))) (length (word_at 2 (words s)))
 sized c e =
-    let v = c.before in let k = v.before in let s = k.before.before.before.before in
-    sym e ∙ (c.sizes-ok.ensures ∙ λ i. sizes_ok (form_of s.args.form) (model_rule s.args.rule) (length (k.word-or-empty.ensures i)) (length (v.word-or-empty2.ensures i)))
+    let v = c in let k = v in let s = k in
+    sym e ∙ (c.sizes_ok.ensures ∙ λ i. sizes_ok (form_of s.args.form) (model_rule s.args.rule) (length (k.word_or_empty-key.ensures i)) (length (v.word_or_empty-value.ensures i)))
 
-pub fixed-refusal-spec : {M : Type 1} → statement M
-fixed-refusal-spec =
+pub fixed_refusal_spec : {M : Type 1} → statement M
+fixed_refusal_spec =
     tie.close
     (tie.spec
     (λ c κs. search rules)
     (λ c. let t = c.before in let s = t.before.before in
-    fixed-in-turn (form_of s.args.form) (words s) (model_rule s.args.rule) (counted t (not-true _ c.if1.true)) refl)
+    fixed-in-turn (form_of s.args.form) (words s) (model_rule s.args.rule) (counted t (c.if-not-count_ok.true)) refl)
     (λ c κs. search rules)
     (λ c κs. search rules)
     (λ c κs. search rules)
-    (λ c. let z = c.before in let t = z.before.before.before in let s = t.before.before.before in
-    fixed-in-turn (form_of s.args.form) (words s) (model_rule s.args.rule) (counted t.before (not-false _ t.if1.false)) (sized z (not-true _ c.if2.true)))
-    (λ c. let z = c.before in let t = z.before.before.before in let s = t.before.before.before in
-    fixed-in-turn (form_of s.args.form) (words s) (model_rule s.args.rule) (counted t.before (not-false _ t.if1.false)) (sized z (not-false _ c.if2.false))))
+    (λ c. let z = c.before in let t = z in let s = t.before.before.before.before.before.before in
+    fixed-in-turn (form_of s.args.form) (words s) (model_rule s.args.rule) (counted t.before.before.before.before (t.if-not-count_ok.false)) (sized z (c.if-not-sizes_ok.true)))
+    (λ c. let z = c.before in let t = z in let s = t.before.before.before.before.before.before in
+    fixed-in-turn (form_of s.args.form) (words s) (model_rule s.args.rule) (counted t.before.before.before.before (t.if-not-count_ok.false)) (sized z (c.if-not-sizes_ok.false))))

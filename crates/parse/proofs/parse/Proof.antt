@@ -19,15 +19,15 @@ abbrev from : tie.Start → Checked Named → Checked Command
 from c x = x >>= parse_by (form_of c.args.form) c.args.time (words_of c.args.s.now)
 
 -- what holds of the name that was read holds of the words
-named : (c : tie.After-name-of) {x : code.Named} → c.name_of.result ≡ x → {y : Checked Command} → let b = c.before.before.before in
+named : (c : tie.After-name_of) {x : code.Named} → c.name_of.result ≡ x → {y : Checked Command} → let b = c.before.before.before in
     y ≡ from b (checked_named x) → y ≡ parse (form_of b.args.form) b.args.time (words_of b.args.s.now)
 unfolding parse
 named c e h =
     let b = c.before.before.before in
-    h ∙ ap (from b) (ap checked_named (sym e) ∙ (c.name_of.ensures ∙ ap (λ (w : List ℕ). given 5 (look (uppers w) names)) c.before.word-or-empty.ensures))
+    h ∙ ap (from b) (ap checked_named (sym e) ∙ (c.name_of.ensures ∙ ap (λ (w : List ℕ). given 5 (look (uppers w) names)) c.word_or_empty.ensures))
 
-pub parse-spec : {M : Type 1} → statement M
-parse-spec =
+pub parse_spec : {M : Type 1} → statement M
+parse_spec =
     tie.close
     (tie.spec
     (λ c κs. search rules)
@@ -37,6 +37,6 @@ parse-spec =
     (λ c κs. search rules)
     (λ c. search rules)
     (λ c κs. search rules)
-    (λ c. named c.before.before c.enum_told.given.1 refl)
-    (λ c. let k = c.before.before in named k.before.before k.name.given.1 c.parse-named.ensures)
-    (λ c. let k = c.before in named k.before.before k.enum-told2.given.1 c.parse-bitfield.ensures))
+    (λ c. named c.before c.in-Unknown.is refl)
+    (λ c. let k = c in named k.before.before k.in-Known.is c.parse_named.ensures)
+    (λ c. let k = c in named k.before.before k.in-Bitfield.is c.parse_bitfield.ensures))

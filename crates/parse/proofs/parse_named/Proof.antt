@@ -12,28 +12,28 @@ use Rattle.parse.proofs.Order.{refused-first, passed_first}
 use Rattle.parse.proofs.parse_named.Statement.{statement}
 use Rattle.parse.proofs.parse_named.Tie as tie
 
-abbrev start : tie.After-fixed-refusal → tie.Start
+abbrev start : tie.After-fixed_refusal-number → tie.Start
 start c = c.before.before.before
 
 -- tests 6 and 7
-tested : (c : tie.After-fixed-refusal) → checked_by c.fixed-refusal.result tt ≡ fixed_ok (form_of (start c).args.form) (rule_of (model_name (start c).args.name)) (words_of (start c).args.s.now)
-tested c = c.fixed-refusal.ensures ∙ ap (λ (r : model.Rule). fixed_ok (form_of (start c).args.form) r (words_of (start c).args.s.now)) c.before.rule-of.ensures
+tested : (c : tie.After-fixed_refusal-number) → checked_by c.fixed_refusal-number.result tt ≡ fixed_ok (form_of (start c).args.form) (rule_of (model_name (start c).args.name)) (words_of (start c).args.s.now)
+tested c = c.fixed_refusal-number.ensures ∙ ap (λ (r : model.Rule). fixed_ok (form_of (start c).args.form) r (words_of (start c).args.s.now)) c.rule_of-rule.ensures
 
-returns : tie.Need-returns
+returns : tie.Need-returns-then-number-ne0
 unfolding parse_named
-returns c = refused-first (tested c.before) _ c.if1.true
+returns c = refused-first (tested c.before) _ c.if-number-ne0.true
 
-returns-2 : tie.Need-returns-2
+returns-2 : tie.Need-returns
 unfolding parse_named
-returns-2 c = let t = c.before in c.parse-options.ensures ∙ passed_first (tested t.before) _ t.if1.false
+returns-2 c = let t = c in c.parse_options.ensures ∙ passed_first (tested t.before.before) _ t.if-number-ne0.false
 
-pub parse-named-spec : {M : Type 1} → statement M
-parse-named-spec =
+pub parse_named_spec : {M : Type 1} → statement M
+parse_named_spec =
     tie.close
     (tie.spec
     (λ c κs. search rules)
     (λ c κs. search rules)
     returns
-    (λ c κs. let r = c.before.before in let s = start c.before in
-    record { splits = s.pre.0; words = s.pre.1; in-time = s.pre.2; rule = r.rule-of.ensures })
+    (λ c κs. let r = c in let s = start c.before in
+    record { splits = s.requires.0; words = s.requires.1; in-time = s.requires.2; rule = r.rule_of-rule.ensures })
     returns-2)

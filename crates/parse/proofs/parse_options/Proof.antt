@@ -29,50 +29,50 @@ module _ (c : tie.Start) where
   name = model_name c.args.name
 
 -- where the reading began
-abbrev first : tie.After-read-fixed → tie.Start
+abbrev first : tie.After-read_fixed-read → tie.Start
 first c = c.before.before.before.before
 
 -- the last fixed word
-fixed : (c : tie.After-read-fixed) → FixedIs (words (first c)) (name (first c)) c.read-fixed.result.number c.read-fixed.result.fixed
+fixed : (c : tie.After-read_fixed-read) → FixedIs (words (first c)) (name (first c)) c.read_fixed-read.result.number c.read_fixed-read.result.fixed
 fixed c =
     let b = first c in
-    fixed-is b.args.time (words b) (name b) c.read-fixed.result b.args.rule b.pre.rule
-    (c.read-fixed.ensures ∙ ap (λ (w : List ℕ). given 9 (read_fixed (model_number b.args.rule.number) w)) c.before.word-or-empty.ensures)
+    fixed-is b.args.time (words b) (name b) c.read_fixed-read.result b.args.rule b.requires.rule
+    (c.read_fixed-read.ensures ∙ ap (λ (w : List ℕ). given 9 (read_fixed (model_number b.args.rule.number) w)) c.word_or_empty-word.ensures)
 
 -- the options
-collected : (c : tie.After-options-in) → let b = first c.before.before.before.before in
-    Collects (words b) (options_in (rule_of (name b)) (drop (rule_of (name b)).fixed (words b))) c.options-in.result
+collected : (c : tie.After-options_in-c) → let b = first c.before.before.before.before in
+    Collects (words b) (options_in (rule_of (name b)) (drop (rule_of (name b)).fixed (words b))) c.options_in-c.result
 collected c =
     let b = first c.before.before.before.before in
-    subst (λ (m : model.Rule). Collects (words b) (options_in m (drop m.fixed (words b))) c.options-in.result) b.pre.rule c.options-in.ensures
+    subst (λ (m : model.Rule). Collects (words b) (options_in m (drop m.fixed (words b))) c.options_in-c.result) b.requires.rule c.options_in-c.ensures
 
-returns : tie.Need-returns
+returns : tie.Need-returns-then-count-rule
 returns c =
     let r = c.before.before.before.before in
     let b = first r in
-    c.parse_plain.ensures b.args.time (words b) (omega (arith, c.before.if1.true, b.pre.words)) (record { rule = b.pre.rule; fixed = fixed r })
+    c.parse_plain.ensures b.args.time (words b) (omega (arith, c.if-count-rule.true, b.requires.words)) (record { rule = b.requires.rule; fixed = fixed r })
 
-returns-2 : tie.Need-returns-2
+returns-2 : tie.Need-returns-then-c-ne0
 returns-2 c =
     let o = c.before.before in
     let b = first o.before.before.before.before in
-    options-wrong b.args.time (words b) (name b) o.options-in.result (omega (arith, c.if2.true)) (collected o)
+    options-wrong b.args.time (words b) (name b) o.options_in-c.result (omega (arith, c.if-c-ne0.true)) (collected o)
 
-returns-3 : tie.Need-returns-3
+returns-3 : tie.Need-returns
 returns-3 c =
-    let e = c.before.before.before in
-    let o = e.before.before in
+    let e = c in
+    let o = e.before.before.before.before.before in
     let r = o.before.before.before.before in
     let b = first r in
-    options-right b.args.time (words b) (name b) o.options-in.result (omega (arith, e.if2.false)) (collected o) λ gs t.
-    c.parse-numbers.ensures b.args.time (words b) gs
+    options-right b.args.time (words b) (name b) o.options_in-c.result (omega (arith, e.if-c-ne0.false)) (collected o) λ gs t.
+    c.parse_numbers.ensures b.args.time (words b) gs
     (record {
       fixed = fixed r;
-      said = c.before.said_in.ensures gs t ∙ ap (λ (k : Bool). said_in b.args.time k gs) (ap (λ (m : model.Rule). m.keeps) b.pre.rule);
+      said = c.said_in-said.ensures gs t ∙ ap (λ (k : Bool). said_in b.args.time k gs) (ap (λ (m : model.Rule). m.keeps) b.requires.rule);
     })
 
-pub parse-options-spec : {M : Type 1} → statement M
-parse-options-spec =
+pub parse_options_spec : {M : Type 1} → statement M
+parse_options_spec =
     tie.close
     (tie.spec
     (λ c. let b = c.before.before in omega (arith, least-fixed (name b), ap (λ (m : model.Rule). m.fixed) b.requires.rule))

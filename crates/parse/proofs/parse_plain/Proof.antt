@@ -11,18 +11,18 @@ use Rattle.parse.proofs.Order.{none-given}
 use Rattle.parse.proofs.parse_plain.Statement.{statement}
 use Rattle.parse.proofs.parse_plain.Tie as tie
 
-returns : tie.Need-returns
+returns : tie.Need-returns-then-rule
 returns c = λ time ws h r.
-    let a = c.before.args in
-    none-given time ws (model_name a.name) (omega (arith, h, ap (λ (m : model.Rule). m.fixed) r.rule)) (sym (ap (λ (m : model.Rule). m.timed) r.rule) ∙ c.if1.true)
+    let a = c.args in
+    none-given time ws (model_name a.name) (omega (arith, h, ap (λ (m : model.Rule). m.fixed) r.rule)) (sym (ap (λ (m : model.Rule). m.timed) r.rule) ∙ c.if-rule.true)
 
-returns-2 : tie.Need-returns-2
+returns-2 : tie.Need-returns
 returns-2 c = λ time ws h r.
-    let e = c.before.before in
-    let a = e.before.args in
-    c.parse-numbers.ensures time ws []
-    (record { fixed = r.fixed; said = c.before.unsaid.ensures time ∙ ap (λ (k : Bool). said_in time k []) (ap (λ (m : model.Rule). m.keeps) r.rule) })
-    ∙ none-given time ws (model_name a.name) (omega (arith, h, ap (λ (m : model.Rule). m.fixed) r.rule)) (sym (ap (λ (m : model.Rule). m.timed) r.rule) ∙ e.if1.false)
+    let e = c in
+    let a = e.args in
+    c.parse_numbers.ensures time ws []
+    (record { fixed = r.fixed; said = c.unsaid.ensures time ∙ ap (λ (k : Bool). said_in time k []) (ap (λ (m : model.Rule). m.keeps) r.rule) })
+    ∙ none-given time ws (model_name a.name) (omega (arith, h, ap (λ (m : model.Rule). m.fixed) r.rule)) (sym (ap (λ (m : model.Rule). m.timed) r.rule) ∙ e.if-rule.false)
 
-pub parse-plain-spec : {M : Type 1} → statement M
-parse-plain-spec = tie.close (tie.spec returns (λ c κs. search rules) (λ c κs. search rules) returns-2)
+pub parse_plain_spec : {M : Type 1} → statement M
+parse_plain_spec = tie.close (tie.spec returns (λ c κs. search rules) (λ c κs. search rules) returns-2)

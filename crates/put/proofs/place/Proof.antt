@@ -18,17 +18,17 @@ checked r o e = by r ∙ ap (given 17) e
     by (At i) = refl
     by Nothing = refl
 
-returns-3 : tie.Need-returns-3
-returns-3 c = rw c.before.enum_told.given.1 (checked c.free-slot.result _ c.free-slot.ensures)
+returns-3 : tie.Need-returns-in-Absent
+returns-3 c = rw c.in-Absent.is (checked c.free_slot.result _ c.free_slot.ensures)
 
-pub place-spec : {M : Type 1} → statement M
-place-spec =
+pub place_spec : {M : Type 1} → statement M
+place_spec =
     tie.close
     (tie.spec
     (λ c. search rules)
     (λ c. search rules)
     (λ c. search rules)
     (λ c κs. search rules)
-    (λ c. rw c.before.found.given.1)
-    (λ c. rw c.before.found2.given.1)
+    (λ c. rw c.in-Live.is)
+    (λ c. rw c.in-Expired.is)
     returns-3)

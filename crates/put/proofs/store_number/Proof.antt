@@ -26,16 +26,16 @@ length-int_text : (z : ℤ) → SFits w64 z → length (int_text z) ≤ 20
 length-int_text (pos n) f = omega (arith, length-nat_text 18 n (omega (arith, f.sfits)))
 length-int_text (negsuc n) f = omega (arith, length-nat_text 18 (suc n) (omega (arith, f.sfits)))
 
-abbrev start : tie.After-write-signed → tie.Start
+abbrev start : tie.After-write_signed-len → tie.Start
 start c = c.before.before.before.before
 
-text-is : (c : tie.After-write-signed) → take c.write-signed.result c.write-signed.new.0 ≡ int_text (start c).args.z
-text-is c = wrote-front _ _ _ _ c.write-signed.ensures ∙ ap int_text (back_is (start c).ranges.z)
+text-is : (c : tie.After-write_signed-len) → take c.write_signed-len.result c.write_signed-len.new.buf ≡ int_text (start c).args.z
+text-is c = wrote-front _ _ _ _ c.write_signed-len.ensures ∙ ap int_text (back_is (start c).ranges.z)
 
-length-is : (c : tie.After-write-signed) → c.write-signed.result ≡ length (int_text (start c).args.z)
-length-is c = let e = ap (λ (z : ℤ). length (int_text z)) (back_is (start c).ranges.z) in omega (arith, c.write-signed.ensures.place)
+length-is : (c : tie.After-write_signed-len) → c.write_signed-len.result ≡ length (int_text (start c).args.z)
+length-is c = let e = ap (λ (z : ℤ). length (int_text z)) (back_is (start c).ranges.z) in omega (arith, c.write_signed-len.ensures.place)
 
-fits : (c : tie.After-write-signed) → length (int_text (start c).args.z) ≤ 20
+fits : (c : tie.After-write_signed-len) → length (int_text (start c).args.z) ≤ 20
 fits c = length-int_text (start c).args.z (start c).ranges.z
 
 -- a value of every form has room for the text of a number
@@ -43,35 +43,35 @@ least : (f : Form) → 20 ≤ (form_of f).value_limit
 least Of128 = omega arith
 least Of192 = omega arith
 
-write-signed-requires : tie.Need-write-signed-requires
+write-signed-requires : tie.Need-write_signed-len-requires
 write-signed-requires c κs =
-    let s = c.before.before.before in
+    let s = c in
     simp (back_is s.ranges.z) (omega (arith, length-int_text s.args.z s.ranges.z))
 
-array-share-prefix-text : tie.Need-array-share-prefix-text
+array-share-prefix-text : tie.Need-slice_bounds-text-end
 array-share-prefix-text c =
     let w = c.before.before in
-    omega (arith, length-is w, fits w, w.write-signed.auto.0)
+    omega (arith, length-is w, fits w, w.write_signed-len.auto.buf)
 
-slice-aggregate-store-value : tie.Need-slice-aggregate-store-value
+slice-aggregate-store-value : tie.Need-slice_bounds-store_value-end
 slice-aggregate-store-value c =
     let w = c.before.before.before in
     omega (arith, length-is w, ap length (text-is w))
 
-store-value-requires : tie.Need-store-value-requires
+store-value-requires : tie.Need-store_value-requires
 store-value-requires c κs =
     let w = c.before.before.before in
     ((start w).requires.0, ((start w).requires.1, omega (arith, fits w, ap length (text-is w), least (start w).args.target.form)))
 
 returns : tie.Need-returns
 returns c =
-    let v = c.before.before in
-    let w = v.before.before.before.before in
+    let v = c in
+    let w = v.before.before.before.before.before.before in
     let s = start w in
-    subst (λ (b : List ℕ). Puts (shape_of s.args.target) s.args.table.now v.store-value.new.0 v.store-value.result (put_in s.args.table.now s.args.target s.args.key.now (model_terms s.args.terms) none b)) (text-is w) v.store-value.ensures
+    subst (λ (b : List ℕ). Puts (shape_of s.args.target) s.args.table.now v.store_value.new.table v.store_value.result (put_in s.args.table.now s.args.target s.args.key.now (model_terms s.args.terms) none b)) (text-is w) v.store_value.ensures
 
-pub store-number-spec : {M : Type 1} → statement M
-store-number-spec =
+pub store_number_spec : {M : Type 1} → statement M
+store_number_spec =
     tie.close
     (tie.spec
     (λ c. search rules)

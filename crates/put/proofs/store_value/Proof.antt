@@ -11,49 +11,49 @@ use Rattle.put.proofs.Putting.{put-highest, put_full, put-at, puts-refused, puts
 use Rattle.put.proofs.store_value.Statement.{statement}
 use Rattle.put.proofs.store_value.Tie as tie
 
-abbrev start : tie.After-version-after → tie.Start
+abbrev start : tie.After-version_after → tie.Start
 start v = v.before.before.before.before
 
-risen : (c : tie.After-version) → version_after (model_change (start c.before.before).args.terms.change) (stored_in (start c.before.before).args.target.found) ≡ ok c.version.given.0.0
-risen c = sym c.before.before.version-after.ensures ∙ ap checked_version c.version.given.1
+risen : (c : tie.In-Value) → version_after (model_change (start c.before).args.terms.change) (stored_in (start c.before).args.target.found) ≡ ok c.in-Value.version
+risen c = sym c.version_after.ensures ∙ ap checked_version c.in-Value.is
 
-abbrev begun : tie.After-slot → tie.Start
-begun c = start c.before.before.before.before.before.before.before
+abbrev begun : tie.In-At → tie.Start
+begun c = start c.before.before.before
 
-taken : (c : tie.After-slot) → given 17 (slot_in (begun c).args.table.now (begun c).args.target) ≡ ok c.slot.given.0.0
-taken c = sym c.before.before.place.ensures ∙ ap checked_slot c.slot.given.1
+taken : (c : tie.In-At) → given 17 (slot_in (begun c).args.table.now (begun c).args.target) ≡ ok c.in-At.slot
+taken c = sym c.place.ensures ∙ ap checked_slot c.in-At.is
 
-returns : tie.Need-returns
+returns : tie.Need-returns-in_default
 returns c =
-    let v = c.before.before in
+    let v = c.before in
     let s = start v in
-    puts-refused _ s.args.table.now _ 15 (put-highest s.args.table.now s.args.target _ (model_terms s.args.terms) _ _ (sym v.version-after.ensures ∙ ap checked_version c.enum_told.given.1))
+    puts-refused _ s.args.table.now _ 15 (put-highest s.args.table.now s.args.target _ (model_terms s.args.terms) _ _ (sym v.version_after.ensures ∙ ap checked_version c.in_default.is))
 
-returns-2 : tie.Need-returns-2
+returns-2 : tie.Need-returns-in_default-place
 returns-2 c =
-    let p = c.before.before in
-    let v = p.before.before.before in
-    let s = start v.before.before in
+    let p = c in
+    let v = p.before.before in
+    let s = start v.before in
     puts-refused _ s.args.table.now _ 17
-    (put_full s.args.table.now s.args.target _ (model_terms s.args.terms) _ _ (risen v) s.pre.1.1 (sym p.place.ensures ∙ ap checked_slot c.enum-told2.given.1))
+    (put_full s.args.table.now s.args.target _ (model_terms s.args.terms) _ _ (risen v) s.requires.1.1 (sym p.place.ensures ∙ ap checked_slot c.in_default-place.is))
 
 store-requires : tie.Need-store-requires
 store-requires c κs =
-    let o = c.before.before.before in
-    let s = start o.before.before.before.before.before.before.before in
-    (s.pre.0.reads, (slot-within s.args.table.now s.args.target _ s.pre.0.at (taken o), s.pre.1))
+    let o = c.before.before in
+    let s = start o.before.before.before in
+    (s.requires.0.reads, (slot-within s.args.table.now s.args.target _ s.requires.0.at (taken o), s.requires.1))
 
-returns-3 : tie.Need-returns-3
+returns-3 : tie.Need-returns
 returns-3 c =
-    let a = c.before.before.before.before in
-    let o = a.before.before in
-    let v = o.before.before.before.before.before in
-    let s = start v.before.before in
-    puts-stored s.args.table.now _ s.args.target _ (model_terms s.args.terms) _ _ _ _ _ a.attributes-after.ensures
-    (put-at s.args.table.now s.args.target _ (model_terms s.args.terms) _ _ (risen v) s.pre.1.1 (taken o)) c.before.before.store.ensures
+    let a = c in
+    let o = a.before.before.before.before.before in
+    let v = o.before.before in
+    let s = start v.before in
+    puts-stored s.args.table.now _ s.args.target _ (model_terms s.args.terms) _ _ _ _ _ a.attributes_after-attributes.ensures
+    (put-at s.args.table.now s.args.target _ (model_terms s.args.terms) _ _ (risen v) s.requires.1.1 (taken o)) c.store.ensures
 
-pub store-value-spec : {M : Type 1} → statement M
-store-value-spec =
+pub store_value_spec : {M : Type 1} → statement M
+store_value_spec =
     tie.close
     (tie.spec
     (λ c κs. search rules)

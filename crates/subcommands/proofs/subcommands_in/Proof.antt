@@ -16,14 +16,14 @@ use Rattle.subcommands.proofs.Collecting.{Reached, reached-first, malformed, rea
 use Rattle.subcommands.proofs.subcommands_in.Statement.{statement}
 use Rattle.subcommands.proofs.subcommands_in.Tie as tie
 
-abbrev invariant-loop : tie.invariant-loop
+abbrev invariant-loop : tie.invariant-loop-i
 invariant-loop s places count list₀ n₀ mode₀ wrong₀ i₀ list n mode wrong i = Reached (words_of s) i list n mode wrong
 
-abbrev decreases-loop : tie.decreases-loop
+abbrev decreases-loop : tie.decreases-loop-i
 decreases-loop s places count list₀ n₀ mode₀ wrong₀ i₀ list n mode wrong i = count - i
 
 -- where the reading began
-module _ (c : tie.At-loop invariant-loop decreases-loop) where
+module _ (c : tie.At-loop-i invariant-loop decreases-loop) where
   abbrev first : tie.Start invariant-loop decreases-loop
   first = c.before.before
 
@@ -31,70 +31,70 @@ module _ (c : tie.At-loop invariant-loop decreases-loop) where
   words = words_of first.args.s.now
 
   few : length words ≤ 16
-  few = word-limit first.pre.0
+  few = word-limit first.requires.0
 
 -- what was taken at a word
 module _ (c : tie.After-take invariant-loop decreases-loop) where
-  abbrev loop : tie.At-loop invariant-loop decreases-loop
+  abbrev loop : tie.At-loop-i invariant-loop decreases-loop
   loop = c.before.before
 
   abbrev At : Step → Type 0
-  At t = Takes (words loop) loop.loop.i (model_mode loop.loop.mode) t
+  At t = Takes (words loop) loop.loop-i.i (model_mode loop.loop-i.mode) t
 
   taken : {t : Step} → c.take.result ≡ t → At t
   taken e = subst At e c.take.ensures
 
 -- a mode, a subcommand that is wrong, and one that is not
-abbrev at-mode : tie.After-later invariant-loop decreases-loop → tie.After-take invariant-loop decreases-loop
-at-mode c = c.before.before
+abbrev at-mode : tie.In-Mode invariant-loop decreases-loop → tie.After-take invariant-loop decreases-loop
+at-mode c = c.before
 
-mode : (c : tie.After-later invariant-loop decreases-loop) → At (at-mode c) (Step.Mode c.later.given.0.0 c.later.given.0.1.0)
-mode c = taken (at-mode c) c.later.given.1
+mode : (c : tie.In-Mode invariant-loop decreases-loop) → At (at-mode c) (Step.Mode c.in-Mode.later c.in-Mode.next)
+mode c = taken (at-mode c) c.in-Mode.is
 
-abbrev at-wrong : tie.After-next invariant-loop decreases-loop → tie.After-take invariant-loop decreases-loop
-at-wrong c = c.before.before
+abbrev at-wrong : tie.In-Wrong invariant-loop decreases-loop → tie.After-take invariant-loop decreases-loop
+at-wrong c = c.before
 
-wrong : (c : tie.After-next invariant-loop decreases-loop) → At (at-wrong c) (Step.Wrong c.next.given.0.0)
-wrong c = taken (at-wrong c) c.next.given.1
+wrong : (c : tie.In-Wrong invariant-loop decreases-loop) → At (at-wrong c) (Step.Wrong c.in-Wrong.next)
+wrong c = taken (at-wrong c) c.in-Wrong.is
 
-module _ (c : tie.After-sub invariant-loop decreases-loop) where
+module _ (c : tie.In-Sub invariant-loop decreases-loop) where
   abbrev at-sub : tie.After-take invariant-loop decreases-loop
-  at-sub = c.before.before
+  at-sub = c.before
 
-  sub : At at-sub (Step.Sub c.sub.given.0.0 c.sub.given.0.1.0)
-  sub = taken at-sub c.sub.given.1
+  sub : At at-sub (Step.Sub c.in-Sub.sub c.in-Sub.next)
+  sub = taken at-sub c.in-Sub.is
 
-  left : (loop at-sub).loop.n < 4
-  left = free (loop at-sub).loop.inv (few (loop at-sub)) sub
+  left : (loop at-sub).loop-i.n < 4
+  left = free (loop at-sub).loop-i.invariant (few (loop at-sub)) sub
 
-past : (c : tie.After-loop invariant-loop decreases-loop) → length (words c.before) ≤ c.before.loop.i
-past c = omega (arith, c.loop-test.false, (first c.before).pre.1)
+past : (c : tie.After-loop-i invariant-loop decreases-loop) → length (words c.before) ≤ c.loop-i.i
+past c = omega (arith, c.loop-i-test.false, (first c.before).requires.1)
 
-pub subcommands-in-spec : {M : Type 1} → statement M
-subcommands-in-spec =
+pub subcommands_in_spec : {M : Type 1} → statement M
+subcommands_in_spec =
     tie.close
     (tie.spec
     invariant-loop
     decreases-loop
     (λ c. reached-first _ _ refl)
-    (λ c κs. ((first c.before).pre.0, (first c.before).pre.1, c.loop-test.true))
+    (λ c κs. ((first c.before).requires.0, (first c.before).requires.1, c.loop-i-test.true))
     (λ c. search rules)
-    (λ c. malformed (loop c.before.before).loop.inv (taken c.before.before c.enum_told.given.1))
+    (λ c. malformed (loop c.before).loop-i.invariant (taken c.before c.in-Malformed.is))
     (λ c. search rules)
-    (λ c. omega (arith, (mode c.before).moves, (at-mode c.before).before.loop-test.taken))
-    (λ c. reached-mode (loop (at-mode c.before)).loop.inv (mode c.before))
+    (λ c. omega (arith, (mode c).moves, (at-mode c).loop-i-test.true))
+    (λ c. reached-mode (loop (at-mode c)).loop-i.invariant (mode c))
     (λ c. search rules)
-    (λ c. omega (arith, (wrong c.before).moves, (at-wrong c.before).before.loop-test.taken))
-    (λ c. reached-wrong (loop (at-wrong c.before)).loop.inv (wrong c.before))
+    (λ c. omega (arith, (wrong c).moves, (at-wrong c).loop-i-test.true))
+    (λ c. reached-wrong (loop (at-wrong c)).loop-i.invariant (wrong c))
     (λ c. search rules)
-    (λ c. record { fits = omega (arith, left c.before) })
-    (λ c. left c.before)
-    (λ c. record { fits = omega (arith, left c.before) })
-    (λ c. omega (arith, (sub c.before).moves, (at-sub c.before).before.loop-test.taken))
-    (λ c. let l = loop (at-sub c.before) in reached-sub l.loop.inv (few l) (sub c.before))
-    (λ c. let l = c.before in all-wrong l.before.loop.invariant (past l) c.if1.true)
-    (λ c. search rules)
-    (λ c. search rules)
+    (λ c. record { fits = omega (arith, left c) })
+    (λ c. left c)
+    (λ c. record { fits = omega (arith, left c) })
+    (λ c. omega (arith, (sub c).moves, (at-sub c).loop-i-test.true))
+    (λ c. let l = loop (at-sub c) in reached-sub l.loop-i.invariant (few l) (sub c))
+    (λ c. let l = c.before in all-wrong l.loop-i.invariant (past l) c.if-wrong.true)
     (λ c. search rules)
     (λ c. search rules)
-    (λ c. let e = c.before.before.before.before in let l = e.before in all_read l.before.loop.invariant (past l) e.if1.false _))
+    (λ c. search rules)
+    (λ c. search rules)
+    (λ c. let e = c in let l = e.before.before.before.before.before in all_read l.loop-i.invariant (past l) e.if-wrong.false _))

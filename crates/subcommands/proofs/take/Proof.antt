@@ -27,7 +27,7 @@ use Rattle.subcommands.proofs.take.Statement.{statement}
 use Rattle.subcommands.proofs.take.Tie as tie
 
 -- the words, and what word i names
-module _ (c : tie.After-sub-name-of) where
+module _ (c : tie.After-sub_name_of) where
   abbrev start : tie.Start
   start = c.before.before.before
 
@@ -35,22 +35,22 @@ module _ (c : tie.After-sub-name-of) where
   words = words_of start.args.s.now
 
   inside : start.args.i < length words
-  inside = omega (arith, start.pre.2, start.pre.1)
+  inside = omega (arith, start.requires.2, start.requires.1)
 
   abbrev looked : Option model.SubName
   looked = look (uppers (word_at start.args.i words)) sub_names
 
-  name-is : {x : SubNamed} → c.sub-name-of.result ≡ x → checked_sub_named x ≡ given 8 looked
-  name-is e = ap checked_sub_named (sym e) ∙ (c.sub-name-of.ensures ∙ ap (λ (w : List ℕ). given 8 (look (uppers w) sub_names)) c.before.word-at.ensures)
+  name-is : {x : SubNamed} → c.sub_name_of.result ≡ x → checked_sub_named x ≡ given 8 looked
+  name-is e = ap checked_sub_named (sym e) ∙ (c.sub_name_of.ensures ∙ ap (λ (w : List ℕ). given 8 (look (uppers w) sub_names)) c.word_at.ensures)
 
 -- the name, where there is one
-module _ (c : tie.After-known-told) where
-  abbrev from : tie.After-sub-name-of
-  from = c.before.before.before
+module _ (c : tie.In-Known) where
+  abbrev from : tie.After-sub_name_of
+  from = c.before
 
-  is : {s : SubName} → c.before.name.given.0.0 ≡ s → looked from ≡ some (model_sub_name s)
+  is : {s : SubName} → c.in-Known.name ≡ s → looked from ≡ some (model_sub_name s)
   is e =
-      given_is 8 (some (model_sub_name c.before.name.given.0.0)) (looked from) (name-is from c.before.name.given.1)
+      given_is 8 (some (model_sub_name c.in-Known.name)) (looked from) (name-is from c.in-Known.is)
       ∙ ap (λ (s : SubName). some (model_sub_name s)) e
 
   abbrev At : Step → Type 0
@@ -72,8 +72,8 @@ take_spec =
     (λ c κs. search rules)
     (λ c. search rules)
     (λ c. search rules)
-    (λ c. let f = c.before.before in
-    taken-unknown (words f) (start f).args.i (inside f) (model_mode (start f).args.mode) (given_is 8 none (looked f) (name-is f c.enum_told.given.1)))
+    (λ c. let f = c.before in
+    taken-unknown (words f) (start f).args.i (inside f) (model_mode (start f).args.mode) (given_is 8 none (looked f) (name-is f c.in_default.is)))
     (λ c. search rules)
     (λ c. search rules)
     (λ c κs. search rules)
@@ -83,8 +83,8 @@ take_spec =
     (λ c κs. search rules)
     (λ c. search rules)
     (λ c κs. search rules)
-    (λ c. let k = c.before.before.before in by-sub k Get tt (is k c.before.enum-told2.given.1) c.take-sub.result c.take-sub.ensures)
-    (λ c. let k = c.before.before.before in by-sub k Set tt (is k c.before.enum-told3.given.1) c.take-sub2.result c.take-sub2.ensures)
-    (λ c. let k = c.before.before.before in
-    by-sub k (Incrby (start (from k)).args.mode) refl (is k c.before.enum-told4.given.1) c.take-sub3.result c.take-sub3.ensures)
-    (λ c. let k = c.before.before.before in by_mode k (is k c.before.enum-told5.given.1) c.take-mode.result c.take-mode.ensures))
+    (λ c. let k = c.before.before in by-sub k Get tt (is k c.in-Get.is) c.take_sub.result c.take_sub.ensures)
+    (λ c. let k = c.before.before in by-sub k Set tt (is k c.in-Set.is) c.take_sub-in-Set.result c.take_sub-in-Set.ensures)
+    (λ c. let k = c.before.before in
+    by-sub k (Incrby (start (from k)).args.mode) refl (is k c.in-Incrby.is) c.take_sub-in-Incrby.result c.take_sub-in-Incrby.ensures)
+    (λ c. let k = c.before.before in by_mode k (is k c.in-Overflow.is) c.take_mode.result c.take_mode.ensures))

@@ -24,24 +24,24 @@ use Rattle.subcommands.proofs.take_mode.Tie as tie
 abbrev looked : tie.Start → Option Mode
 looked c = look (uppers (word_at c.args.at (words_of c.args.s.now))) modes
 
-mode-is : (c : tie.After-mode-of) {x : ModeNamed} → c.Mode-of.result ≡ x → checked_mode_named x ≡ given 8 (looked c.before.before.before.before)
-mode-is c e = ap checked_mode_named (sym e) ∙ (c.Mode-of.ensures ∙ ap (λ (w : List ℕ). given 8 (look (uppers w) modes)) c.before.word-at.ensures)
+mode-is : (c : tie.After-mode_of) {x : ModeNamed} → c.mode_of.result ≡ x → checked_mode_named x ≡ given 8 (looked c.before.before.before.before)
+mode-is c e = ap checked_mode_named (sym e) ∙ (c.mode_of.ensures ∙ ap (λ (w : List ℕ). given 8 (look (uppers w) modes)) c.word_at.ensures)
 
-returns : tie.Need-returns
+returns : tie.Need-returns-then-count-at
 returns c =
-    let b = c.before.before in
-    ap (λ (w : List ℕ). look (uppers w) modes) (get_or-eq_default (words_of b.args.s.now) [] (omega (arith, c.if1.true, b.requires.1)))
+    let b = c in
+    ap (λ (w : List ℕ). look (uppers w) modes) (get_or-eq_default (words_of b.args.s.now) [] (omega (arith, c.if-count-at.true, b.requires.1)))
 
-returns-3 : tie.Need-returns-3
+returns-3 : tie.Need-returns-in-Known
 returns-3 c =
-    let m = c.before in
-    let f = m.before.before in
-    let e = f.before.before in
-    let b = e.before.before in
-    (refl, omega (arith, e.if1.false, b.requires.1), given_is 8 (some (model_mode m.mode.given.0.0)) (looked b) (mode-is f m.mode.given.1))
+    let m = c in
+    let f = m.before in
+    let e = f in
+    let b = e.before.before.before.before in
+    (refl, omega (arith, e.if-count-at.false, b.requires.1), given_is 8 (some (model_mode m.in-Known.mode)) (looked b) (mode-is f m.in-Known.is))
 
-pub take-mode-spec : {M : Type 1} → statement M
-take-mode-spec =
+pub take_mode_spec : {M : Type 1} → statement M
+take_mode_spec =
     tie.close
     (tie.spec
     returns
@@ -50,5 +50,5 @@ take-mode-spec =
     (λ c. search rules)
     (λ c. search rules)
     (λ c. search rules)
-    (λ c. let f = c.before.before in given_is 8 none (looked f.before.before.before.before) (mode-is f c.enum_told.given.1))
+    (λ c. let f = c.before in given_is 8 none (looked f.before.before.before.before) (mode-is f c.in-Unknown.is))
     returns-3)

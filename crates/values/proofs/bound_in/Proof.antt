@@ -25,30 +25,30 @@ use Rattle.values.proofs.bound_in.Tie as tie
 abbrev bound : ℤ → Checked (Option ℤ)
 bound z = ok (some z)
 
-said : (c : tie.After-read-signed) {x : Signed} → c.read-signed.result ≡ x → let a = c.before.before.before.before.args in
+said : (c : tie.After-read_signed) {x : Signed} → c.read_signed.result ≡ x → let a = c.args in
     (checked_signed x >>= bound) ≡ bound_in (model_given (words_of a.s.now) a.g)
 said c e =
-    let t = c.before.before in
-    let a = t.before.before.args in
+    let t = c in
+    let a = t.args in
     let word = word_at a.g.word (words_of a.s.now) in
     ap (λ (x : Checked ℤ). x >>= bound)
-    (signed-checked (read_signed word) (c.read-signed.ensures ∙ ap (λ (w : List ℕ). signed_from (read_signed w)) c.before.number_word.ensures) e)
-    ∙ sym (of-given bound_in (words_of a.s.now) a.g t.if1.true)
+    (signed-checked (read_signed word) (c.read_signed.ensures ∙ ap (λ (w : List ℕ). signed_from (read_signed w)) c.number_word.ensures) e)
+    ∙ sym (of-given bound_in (words_of a.s.now) a.g t.if-g.true)
 
-returns-2 : tie.Need-returns-2
+returns-2 : tie.Need-returns-then-g
 returns-2 c =
-    let z = c.before in
-    let fits : SFits w64 z.z.given.0.0 = record { sfits = c.known-told.given.0.1 } in
-    ap bound (back_is fits) ∙ said z.before.before z.z.given.1
+    let z = c in
+    let fits : SFits w64 z.in-Value.z = record { sfits = c.in-Value.known_told-1-own.given.0.1 } in
+    ap bound (back_is fits) ∙ said z.before z.in-Value.is
 
-pub bound-in-spec : {M : Type 1} → statement M
-bound-in-spec =
+pub bound_in_spec : {M : Type 1} → statement M
+bound_in_spec =
     tie.close
     (tie.spec
     (λ c κs. search rules)
     (λ c κs. search rules)
     (λ c. search rules)
     (λ c. search rules)
-    (λ c. said c.before.before c.enum_told.given.1)
+    (λ c. said c.before c.in_default.is)
     returns-2
-    (λ c. let a = c.before.before.args in sym (of_none bound_in (words_of a.s.now) a.g c.if1.false)))
+    (λ c. let a = c.args in sym (of_none bound_in (words_of a.s.now) a.g c.if-g.false)))

@@ -5,10 +5,10 @@ use Rattle.model.specs.Checked.{check}
 use Rattle.values.proofs.bounds_refusal.Statement.{statement}
 use Rattle.values.proofs.bounds_refusal.Tie as tie
 
-pub bounds-refusal-spec : {M : Type 1} → statement M
-bounds-refusal-spec =
+pub bounds_refusal_spec : {M : Type 1} → statement M
+bounds_refusal_spec =
     tie.close
     (tie.spec
     (λ c κs. search rules)
-    (λ c. ap (check 11) (sym c.if1.true ∙ c.before.ordered.ensures))
-    (λ c. ap (check 11) (sym c.if1.false ∙ c.before.ordered.ensures)))
+    (λ c. ap (check 11) (sym c.if-ordered.true ∙ c.ordered.ensures))
+    (λ c. ap (check 11) (sym c.if-ordered.false ∙ c.ordered.ensures)))

@@ -10,21 +10,21 @@ use Rattle.values.proofs.change_by.Statement.{statement}
 use Rattle.values.proofs.change_by.Tie as tie
 
 -- what VER or ABS asks for, by its choice
-chosen : (c : tie.After-opt) {b : Bool} → c.opt.given.0.0 ≡ b → let a = c.before.before.args in change_by (version b) a.n ≡ change_by (model_opt a.opt) a.n
+chosen : (c : tie.In-Version) {b : Bool} → c.in-Version.absolute ≡ b → let a = c.args in change_by (version b) a.n ≡ change_by (model_opt a.opt) a.n
 chosen c e =
-    let a = c.before.before.args in
-    sym (ap (λ (x : Opt). change_by (model_opt x) a.n) c.opt.given.1 ∙ ap (λ (b : Bool). change_by (version b) a.n) e)
+    let a = c.args in
+    sym (ap (λ (x : Opt). change_by (model_opt x) a.n) c.in-Version.is ∙ ap (λ (b : Bool). change_by (version b) a.n) e)
 
-pub change-by-spec : {M : Type 1} → statement M
-change-by-spec =
+pub change_by_spec : {M : Type 1} → statement M
+change_by_spec =
     tie.close
     (tie.spec
     (λ c. search rules)
-    (λ c. chosen c.before.before c.if1.true)
+    (λ c. chosen c.before c.if-absolute.true)
     (λ c. search rules)
     (λ c. search rules)
     (λ c. search rules)
-    (λ c. chosen c.before.before c.if1.false)
+    (λ c. chosen c.before c.if-absolute.false)
     (λ c. search rules)
     (λ c. search rules)
     (λ c. search rules))

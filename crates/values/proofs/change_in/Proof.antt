@@ -19,25 +19,25 @@ use Rattle.values.proofs.change_in.Statement.{statement}
 use Rattle.values.proofs.change_in.Tie as tie
 
 -- what is asked for with the number that the word reads as
-asked : (c : tie.After-read-version) {x : Natural} → c.read-version.result ≡ x → let a = c.before.before.before.before.args in
+asked : (c : tie.After-read_version) {x : Natural} → c.read_version.result ≡ x → let a = c.args in
     (checked_natural x >>= λ n. ok (change_by (model_opt a.g.opt) n)) ≡ change_in (model_given (words_of a.s.now) a.g)
 asked c e =
-    let t = c.before.before in
-    let a = t.before.before.args in
+    let t = c in
+    let a = t.args in
     let word = word_at a.g.word (words_of a.s.now) in
     ap (λ (x : Checked ℕ). x >>= λ n. ok (change_by (model_opt a.g.opt) n))
-    (natural-checked (read_version word) (c.read-version.ensures ∙ ap (λ (w : List ℕ). natural_from (read_version w)) c.before.number_word.ensures) e)
-    ∙ sym (of-given change_in (words_of a.s.now) a.g t.if1.true)
+    (natural-checked (read_version word) (c.read_version.ensures ∙ ap (λ (w : List ℕ). natural_from (read_version w)) c.number_word.ensures) e)
+    ∙ sym (of-given change_in (words_of a.s.now) a.g t.if-g.true)
 
-pub change-in-spec : {M : Type 1} → statement M
-change-in-spec =
+pub change_in_spec : {M : Type 1} → statement M
+change_in_spec =
     tie.close
     (tie.spec
     (λ c κs. search rules)
     (λ c κs. search rules)
     (λ c. search rules)
     (λ c. search rules)
-    (λ c. asked c.before.before c.enum_told.given.1)
+    (λ c. asked c.before c.in_default.is)
     (λ c κs. search rules)
-    (λ c. ap (λ (x : Change). ok x) c.change-by.ensures ∙ asked c.before.before.before.before c.before.before.n.given.1)
-    (λ c. let a = c.before.before.args in sym (of_none change_in (words_of a.s.now) a.g c.if1.false)))
+    (λ c. ap (λ (x : Change). ok x) c.change_by.ensures ∙ asked c.before.before c.in-Value.is)
+    (λ c. let a = c.args in sym (of_none change_in (words_of a.s.now) a.g c.if-g.false)))

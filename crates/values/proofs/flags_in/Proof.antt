@@ -20,29 +20,29 @@ use Rattle.values.proofs.flags_in.Statement.{statement}
 use Rattle.values.proofs.flags_in.Tie as tie
 
 -- what the word says
-module _ (c : tie.After-read-flags) where
+module _ (c : tie.After-read_flags) where
   abbrev start : tie.Start
   start = c.before.before.before.before
 
   abbrev word : List ℕ
   word = word_at start.args.g.word (words_of start.args.s.now)
 
-  read : {x : Natural} → c.read-Flags.result ≡ x → checked_natural x ≡ given 9 (read_flags word)
-  read e = natural-checked (read_flags word) (c.read-Flags.ensures ∙ ap (λ (w : List ℕ). natural_from (read_flags w)) c.before.number_word.ensures) e
+  read : {x : Natural} → c.read_flags.result ≡ x → checked_natural x ≡ given 9 (read_flags word)
+  read e = natural-checked (read_flags word) (c.read_flags.ensures ∙ ap (λ (w : List ℕ). natural_from (read_flags w)) c.number_word.ensures) e
 
-  said : {x : Natural} → c.read-Flags.result ≡ x → checked_natural x ≡ flags_in (model_given (words_of start.args.s.now) start.args.g)
-  said e = read e ∙ sym (of-given flags_in (words_of start.args.s.now) start.args.g c.before.before.if1.true)
+  said : {x : Natural} → c.read_flags.result ≡ x → checked_natural x ≡ flags_in (model_given (words_of start.args.s.now) start.args.g)
+  said e = read e ∙ sym (of-given flags_in (words_of start.args.s.now) start.args.g c.if-g.true)
 
-pub flags-in-spec : {M : Type 1} → statement M
-flags-in-spec =
+pub flags_in_spec : {M : Type 1} → statement M
+flags_in_spec =
     tie.close
     (tie.spec
     (λ c κs. search rules)
     (λ c κs. search rules)
     (λ c. search rules)
     (λ c. search rules)
-    (λ c. said c.before.before c.enum_told.given.1)
-    (λ c. let r = c.before.before.before in
-    record { fits = omega (arith, read_flags-below (word r) c.before.n.given.0.0 (given-some 9 (read_flags (word r)) (read r c.before.n.given.1))) })
-    (λ c. said c.before.before.before c.before.n.given.1)
+    (λ c. said c.before c.in_default.is)
+    (λ c. let r = c.before in
+    record { fits = omega (arith, read_flags-below (word r) c.in-Value.n (given-some 9 (read_flags (word r)) (read r c.in-Value.is))) })
+    (λ c. said c.before c.in-Value.is)
     (λ c. search rules))

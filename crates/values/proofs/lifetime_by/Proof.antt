@@ -10,8 +10,8 @@ use Rattle.values.proofs.lifetime_by.Tie as tie
 row : (c : tie.Start) {x : Opt} → c.args.opt ≡ x → lifetime_by (model_opt x) c.args.w.now ≡ lifetime_by (model_opt c.args.opt) c.args.w.now
 row c e = sym (ap (λ (x : Opt). lifetime_by (model_opt x) c.args.w.now) e)
 
-pub lifetime-by-spec : {M : Type 1} → statement M
-lifetime-by-spec =
+pub lifetime_by_spec : {M : Type 1} → statement M
+lifetime_by_spec =
     tie.close
     (tie.spec
     (λ c. search rules)
@@ -19,7 +19,7 @@ lifetime-by-spec =
     (λ c. search rules)
     (λ c. search rules)
     (λ c. search rules)
-    (λ c. c.until.ensures ∙ row c.before.before.before.before.before c.before.before.opt.given.1)
-    (λ c. row c.before.before.before c.enum_told.given.1)
-    (λ c. row c.before.before.before c.enum-told2.given.1)
-    (λ c. row c.before.before.before c.enum-told3.given.1))
+    (λ c. c.until.ensures ∙ row c.before.before.before c.in-Time.is)
+    (λ c. row c.before.before c.in-Presence.is)
+    (λ c. row c.before.before c.in-Version.is)
+    (λ c. row c.before.before c.in-Plain.is))

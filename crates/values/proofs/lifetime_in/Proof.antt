@@ -10,16 +10,16 @@ use Rattle.values.proofs.Answers.{of-given, of_none}
 use Rattle.values.proofs.lifetime_in.Statement.{statement}
 use Rattle.values.proofs.lifetime_in.Tie as tie
 
-returns : tie.Need-returns
+returns : tie.Need-returns-then-g
 returns c =
-    let t = c.before.before in
-    let a = t.before.before.args in
-    c.lifetime-by.ensures
-    ∙ (ap (λ (w : List ℕ). lifetime_by (model_opt a.g.opt) w) c.before.number_word.ensures
-    ∙ sym (of-given lifetime_in (words_of a.s.now) a.g t.if1.true))
+    let t = c in
+    let a = t.args in
+    c.lifetime_by.ensures
+    ∙ (ap (λ (w : List ℕ). lifetime_by (model_opt a.g.opt) w) c.number_word.ensures
+    ∙ sym (of-given lifetime_in (words_of a.s.now) a.g t.if-g.true))
 
-returns-2 : tie.Need-returns-2
-returns-2 c = let a = c.before.before.args in sym (of_none lifetime_in (words_of a.s.now) a.g c.if1.false)
+returns-2 : tie.Need-returns
+returns-2 c = let a = c.args in sym (of_none lifetime_in (words_of a.s.now) a.g c.if-g.false)
 
-pub lifetime-in-spec : {M : Type 1} → statement M
-lifetime-in-spec = tie.close (tie.spec (λ c κs. search rules) (λ c κs. search rules) returns returns-2)
+pub lifetime_in_spec : {M : Type 1} → statement M
+lifetime_in_spec = tie.close (tie.spec (λ c κs. search rules) (λ c κs. search rules) returns returns-2)

@@ -6,10 +6,10 @@ use Rattle.values.proofs.Answers.{of-given, of_none}
 use Rattle.values.proofs.presence_in.Statement.{statement}
 use Rattle.values.proofs.presence_in.Tie as tie
 
-pub presence-in-spec : {M : Type 1} → statement M
-presence-in-spec =
+pub presence_in_spec : {M : Type 1} → statement M
+presence_in_spec =
     tie.close
     (tie.spec
     (λ c κs. search rules)
-    (λ c ws. c.presence-by.ensures ∙ sym (of-given presence_in ws c.before.before.args.g c.before.if1.true))
-    (λ c ws. sym (of_none presence_in ws c.before.args.g c.if1.false)))
+    (λ c ws. c.presence_by.ensures ∙ sym (of-given presence_in ws c.args.g c.if-g.true))
+    (λ c ws. sym (of_none presence_in ws c.args.g c.if-g.false)))

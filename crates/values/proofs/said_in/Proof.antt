@@ -30,68 +30,68 @@ module _ (c : tie.Start) (gs : List Given) where
   whole = refl
 
 -- the numbers
-module _ (c : tie.After-numbers-in) (gs : List Given) where
+module _ (c : tie.After-numbers_in) (gs : List Given) where
   abbrev start : tie.Start
   start = c.before.before
 
-  nine : Tied (words_of start.args.s.now) gs start.args.o → {x : ReadNumbers} → c.numbers-in.result ≡ x
+  nine : Tied (words_of start.args.s.now) gs start.args.o → {x : ReadNumbers} → c.numbers_in.result ≡ x
       → from start gs (checked_numbers x) ≡ said_in start.args.time start.args.keeps gs
-  nine t e = ap (from start gs) (ap checked_numbers (sym e) ∙ c.numbers-in.ensures gs t) ∙ whole start gs
+  nine t e = ap (from start gs) (ap checked_numbers (sym e) ∙ c.numbers_in.ensures gs t) ∙ whole start gs
 
 -- the expiry and the bounds
-module _ (c : tie.After-bounds-refusal) (gs : List Given) where
-  abbrev expired : tie.After-expire-in
+module _ (c : tie.After-bounds_refusal-eleven) (gs : List Given) where
+  abbrev expired : tie.After-expire_in-e
   expired = c.before
 
   abbrev ten : ℕ
-  ten = expired.expire-in.result.number
+  ten = expired.expire_in-e.result.number
 
-  abbrev numbered : tie.After-x
-  numbered = expired.before.before
+  abbrev numbered : tie.In-Values
+  numbered = expired.before
 
-  abbrev begun : tie.After-numbers-in
-  begun = numbered.before.before
+  abbrev begun : tie.After-numbers_in
+  begun = numbered.before
 
   eleven : Tied (words_of (start begun gs).args.s.now) gs (start begun gs).args.o → {e : Checked Expire} {u : Checked (Unit {0})}
-      → e ≡ checked_by ten (model_expire expired.expire-in.result.expire) → u ≡ checked_by c.bounds-refusal.result tt
-      → within gs (model_numbers numbered.x.given.0.0) e u ≡ said_in (start begun gs).args.time (start begun gs).args.keeps gs
+      → e ≡ checked_by ten (model_expire expired.expire_in-e.result.expire) → u ≡ checked_by c.bounds_refusal-eleven.result tt
+      → within gs (model_numbers numbered.in-Values.x) e u ≡ said_in (start begun gs).args.time (start begun gs).args.keeps gs
   eleven t p q =
-      (λ i. within gs (model_numbers numbered.x.given.0.0) ((p ∙ expired.expire-in.ensures) i) ((q ∙ c.bounds-refusal.ensures) i))
-      ∙ nine begun gs t numbered.x.given.1
+      (λ i. within gs (model_numbers numbered.in-Values.x) ((p ∙ expired.expire_in-e.ensures) i) ((q ∙ c.bounds_refusal-eleven.ensures) i))
+      ∙ nine begun gs t numbered.in-Values.is
 
 -- a refusal has its number
 refuses : (r : ReadSaid) (n : ℕ) → r.number ≡ n → 0 < n → checked_said r ≡ refuse n
 refuses r n e h = ap (λ (n : ℕ). checked_by n (model_said r.said)) e ∙ sym (refused-is n (model_said r.said) h)
 
-returns-2 : tie.Need-returns-2
+returns-2 : tie.Need-returns-then-ten-ne0
 returns-2 c = λ gs t.
-    let i = c.before in
-    refuses c.refused2.result (ten i.before gs) c.refused2.ensures (omega (arith, i.if1.true))
-    ∙ eleven i.before gs t (refused-is (ten i.before gs) _ (omega (arith, i.if1.true))) refl
+    let i = c in
+    refuses c.refused-then-ten-ne0.result (ten i.before.before gs) c.refused-then-ten-ne0.ensures (omega (arith, i.if-ten-ne0.true))
+    ∙ eleven i.before.before gs t (refused-is (ten i.before.before gs) _ (omega (arith, i.if-ten-ne0.true))) refl
 
-returns-3 : tie.Need-returns-3
+returns-3 : tie.Need-returns-then-eleven-ne0
 returns-3 c = λ gs t.
-    let j = c.before in
-    let i = j.before in
-    refuses c.refused3.result i.before.bounds-refusal.result c.refused3.ensures (omega (arith, j.if2.true))
-    ∙ eleven i.before gs t (passed_is (ten i.before gs) _ (omega (arith, i.if1.false))) (refused-is i.before.bounds-refusal.result _ (omega (arith, j.if2.true)))
+    let j = c in
+    let i = j in
+    refuses c.refused-then-eleven-ne0.result i.bounds_refusal-eleven.result c.refused-then-eleven-ne0.ensures (omega (arith, j.if-eleven-ne0.true))
+    ∙ eleven i.before.before.before gs t (passed_is (ten i.before.before.before gs) _ (omega (arith, i.if-ten-ne0.false))) (refused-is i.bounds_refusal-eleven.result _ (omega (arith, j.if-eleven-ne0.true)))
 
-returns-4 : tie.Need-returns-4
+returns-4 : tie.Need-returns
 returns-4 c = λ gs t.
-    let j = c.before in
-    let i = j.before in
-    ap (λ (x : Said). ok x) (c.said-with.ensures _ gs t)
-    ∙ eleven i.before gs t (passed_is (ten i.before gs) _ (omega (arith, i.if1.false))) (passed_is i.before.bounds-refusal.result _ (omega (arith, j.if2.false)))
+    let j = c in
+    let i = j in
+    ap (λ (x : Said). ok x) (c.said_with.ensures _ gs t)
+    ∙ eleven i.before.before.before gs t (passed_is (ten i.before.before.before gs) _ (omega (arith, i.if-ten-ne0.false))) (passed_is i.bounds_refusal-eleven.result _ (omega (arith, j.if-eleven-ne0.false)))
 
-pub said-in-spec : {M : Type 1} → statement M
-said-in-spec =
+pub said_in_spec : {M : Type 1} → statement M
+said_in_spec =
     tie.close
     (tie.spec
     (λ c κs. search rules)
     (λ c. search rules)
     (λ c. search rules)
     (λ c κs. search rules)
-    (λ c gs t. refuses c.refused.result 9 c.refused.ensures (omega arith) ∙ nine c.before.before.before gs t c.before.enum_told.given.1)
+    (λ c gs t. refuses c.refused.result 9 c.refused.ensures (omega arith) ∙ nine c.before.before gs t c.in_default.is)
     (λ c κs. search rules)
     (λ c κs. search rules)
     (λ c κs. search rules)

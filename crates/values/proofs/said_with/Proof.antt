@@ -11,11 +11,11 @@ use Rattle.values.proofs.said_with.Tie as tie
 
 returns : tie.Need-returns
 returns c = λ ws gs t.
-    let p = c.before.before.before in
-    let a = p.before.before.args in
+    let p = c in
+    let a = p.args in
     let x = model_numbers a.x in
     λ i. record {
-      terms = record { presence = (p.presence-in.ensures ws ∙ ap presence_in (sym (t.picks nx_or_xx))) i; change = x.change; expire = model_expire a.expire };
+      terms = record { presence = (p.presence_in-presence.ensures ws ∙ ap presence_in (sym (t.picks nx_or_xx))) i; change = x.change; expire = model_expire a.expire };
       flags = x.flags;
       min = x.min;
       max = x.max;
@@ -24,6 +24,6 @@ returns c = λ ws gs t.
       with_flags = has-group t with_flags_word i;
     }
 
-pub said-with-spec : {M : Type 1} → statement M
-said-with-spec =
+pub said_with_spec : {M : Type 1} → statement M
+said_with_spec =
     tie.close (tie.spec (λ c. search rules) (λ c κs. search rules) (λ c. search rules) (λ c. search rules) (λ c. search rules) returns)

@@ -16,7 +16,7 @@ numbers = record { lifetime = unsaid; change = model.raise none; flags = 0; min 
 
 returns : tie.Need-returns
 unfolding said_in numbers_in
-returns c = λ time. ap (λ (e : Checked Expire). e >>= λ x. ok (said_with [] numbers x)) (c.expire-unsaid.ensures time)
+returns c = λ time. ap (λ (e : Checked Expire). e >>= λ x. ok (said_with [] numbers x)) (c.expire_unsaid-expire.ensures time)
 
-pub unsaid-spec : {M : Type 1} → statement M
-unsaid-spec = tie.close (tie.spec (λ c κs. search rules) returns)
+pub unsaid_spec : {M : Type 1} → statement M
+unsaid_spec = tie.close (tie.spec (λ c κs. search rules) returns)

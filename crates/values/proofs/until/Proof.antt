@@ -15,24 +15,24 @@ use Rattle.values.proofs.until.Tie as tie
 -- what the time word says with the number z
 module _ (c : tie.Start) where
   abbrev say : ℤ → Checked model.Lifetime
-  say z = ok (model.until c.args.unit c.args.from-now z)
+  say z = ok (model.until c.args.unit c.args.from_now z)
 
   abbrev said : Checked ℤ → Checked model.Lifetime
   said x = x >>= say
 
-returns : tie.Need-returns
+returns : tie.Need-returns-in_default
 returns c =
-    let r = c.before.before in
-    let b = r.before.before in
-    ap (said b) (signed-checked (read_signed b.args.w.now) r.read-signed.ensures c.enum_told.given.1)
+    let r = c in
+    let b = r.before.before.before in
+    ap (said b) (signed-checked (read_signed b.args.w.now) r.read_signed.ensures c.in_default.is)
 
-returns-2 : tie.Need-returns-2
+returns-2 : tie.Need-returns
 returns-2 c =
-    let n = c.before in
-    let r = n.before.before in
-    let b = r.before.before in
-    let fits : SFits w64 n.number.given.0.0 = record { sfits = c.known-told.given.0.1 } in
-    ap (say b) (back_is fits) ∙ ap (said b) (signed-checked (read_signed b.args.w.now) r.read-signed.ensures n.number.given.1)
+    let n = c in
+    let r = n in
+    let b = r.before.before.before in
+    let fits : SFits w64 n.in-Value.number = record { sfits = c.in-Value.known_told-1-own.given.0.1 } in
+    ap (say b) (back_is fits) ∙ ap (said b) (signed-checked (read_signed b.args.w.now) r.read_signed.ensures n.in-Value.is)
 
-pub until-spec : {M : Type 1} → statement M
-until-spec = tie.close (tie.spec (λ c κs. search rules) (λ c. search rules) (λ c. search rules) returns returns-2)
+pub until_spec : {M : Type 1} → statement M
+until_spec = tie.close (tie.spec (λ c κs. search rules) (λ c. search rules) (λ c. search rules) returns returns-2)

@@ -3,5 +3,5 @@ use borrow.Author.Rules.{rules}
 use Rattle.assembler.proofs.frame.after.Statement.{statement}
 use Rattle.assembler.proofs.frame.after.Tie as tie
 
-pub after-spec : {M : Type 1} → statement M
-after-spec = tie.close (tie.spec (λ c. search rules) (λ c. search rules) (λ c. rw c.enum_told.given.1) (λ c. rw c.before.header.given.1))
+pub after_spec : {M : Type 1} → statement M
+after_spec = tie.close (tie.spec (λ c. search rules) (λ c. search rules) (λ c. rw c.in-Array.is) (λ c. rw c.in-Bulk.is))

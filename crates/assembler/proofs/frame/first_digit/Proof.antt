@@ -6,10 +6,10 @@ use Rattle.assembler.proofs.frame.first_digit.Tie as tie
 
 returns : tie.Need-returns
 returns c =
-    let a = c.before in
-    let i = a.before in
-    c.to.ensures ∙ rw (i.is_digit.ensures, a.is-allowed.ensures, i.before.digit-of.ensures)
+    let a = c in
+    let i = a in
+    c.to.ensures ∙ rw (i.is_digit.ensures, a.is_allowed.ensures, i.digit_of-n.ensures)
 
-pub first-digit-spec : {M : Type 1} → statement M
-first-digit-spec =
+pub first_digit_spec : {M : Type 1} → statement M
+first_digit_spec =
     tie.close (tie.spec (λ c κs. search rules) (λ c κs. search rules) (λ c κs. search rules) (λ c κs. search rules) returns)

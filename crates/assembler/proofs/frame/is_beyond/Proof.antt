@@ -13,22 +13,22 @@ use Rattle.assembler.proofs.frame.is_beyond.Tie as tie
 asked : (s : tie.Start) {p : Place} → s.args.place ≡ p → s.args.used + need (place_of p) < 65536
 asked s e = subst (λ (p : Place). s.args.used + need (place_of p) < 65536) e s.requires
 
-need-after-requires : tie.Need-need-after-requires
-need-after-requires c κs = let p = c.before in omega (arith, asked p.before.before p.place.given.1)
+need-after-requires : tie.Need-need_after-requires
+need-after-requires c κs = let p = c in omega (arith, asked p.before p.in-Digit.is)
 
-add-result : tie.Need-overflow-add-result
-add-result c = let p = c.before.before in omega (arith, c.need-after.ensures, asked p.before.before p.place.given.1)
+add-result : tie.Need-overflow_add-result
+add-result c = let p = c in omega (arith, c.need_after.ensures, asked p.before.before p.in-Digit.is)
 
-add-result-2 : tie.Need-overflow-add-result-2
-add-result-2 c = let p = c.before.before in omega (arith, c.need-after.ensures, asked p.before.before p.place.given.1)
+add-result-2 : tie.Need-overflow_add-result-in-Digit
+add-result-2 c = let p = c in omega (arith, c.need_after.ensures, asked p.before.before p.in-Digit.is)
 
-returns : tie.Need-returns
+returns : tie.Need-returns-in-Digit
 returns c =
-    let p = c.before.before in let s = p.before.before in
-    rw c.need-after.ensures (ap (λ (q : Place). beyond (place_of q) s.args.used) (sym p.place.given.1))
+    let p = c in let s = p in
+    rw c.need_after.ensures (ap (λ (q : Place). beyond (place_of q) s.args.used) (sym p.in-Digit.is))
 
-pub is-beyond-spec : {M : Type 1} → statement M
-is-beyond-spec =
+pub is_beyond_spec : {M : Type 1} → statement M
+is_beyond_spec =
     tie.close
     (tie.spec
     (λ c. search rules) need-after-requires add-result add-result-2

@@ -5,12 +5,12 @@ use borrow.Author.Tests.{ne_eqb}
 use Rattle.assembler.proofs.frame.next_digit.Statement.{statement}
 use Rattle.assembler.proofs.frame.next_digit.Tie as tie
 
-returns-2 : tie.Need-returns-2
+returns-2 : tie.Need-returns
 returns-2 c =
-    let a = c.before in let i = a.before in let d = i.before in let l = d.before in
-    c.to.ensures ∙ rw (i.is_digit.ensures, a.is-allowed.ensures, d.digit-of.ensures, ne_eqb l.before.args.c 13 l.if1.false)
+    let a = c in let i = a in let d = i in let l = d in
+    c.to.ensures ∙ rw (i.is_digit.ensures, a.is_allowed.ensures, d.digit_of.ensures, ne_eqb l.args.c 13 l.if-c-eq13.false)
 
-pub next-digit-spec : {M : Type 1} → statement M
-next-digit-spec =
+pub next_digit_spec : {M : Type 1} → statement M
+next_digit_spec =
     tie.close
-    (tie.spec (λ c. rw c.if1.true) (λ c. search rules) (λ c κs. search rules) (λ c. search rules) (λ c κs. search rules) (λ c κs. search rules) (λ c κs. search rules) returns-2)
+    (tie.spec (λ c. rw c.if-c-eq13.true) (λ c. search rules) (λ c κs. search rules) (λ c. search rules) (λ c κs. search rules) (λ c κs. search rules) (λ c κs. search rules) returns-2)

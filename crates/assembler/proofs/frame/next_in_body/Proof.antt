@@ -5,11 +5,11 @@ use Rattle.assembler.proofs.Moves.{body-last, body-next}
 use Rattle.assembler.proofs.frame.next_in_body.Statement.{statement}
 use Rattle.assembler.proofs.frame.next_in_body.Tie as tie
 
-returns : tie.Need-returns
-returns c = let a = c.before.before.args in c.to.ensures ∙ sym (body-last a.n a.c a.later c.before.if1.true)
+returns : tie.Need-returns-then-n-eq0
+returns c = let a = c.args in c.to.ensures ∙ sym (body-last a.n a.c a.later c.if-n-eq0.true)
 
-returns-2 : tie.Need-returns-2
-returns-2 c = let a = c.before.args in sym (body-next a.n a.later a.c c.if1.false)
+returns-2 : tie.Need-returns
+returns-2 c = let a = c.args in sym (body-next a.n a.later a.c c.if-n-eq0.false)
 
-pub next-in-body-spec : {M : Type 1} → statement M
-next-in-body-spec = tie.close (tie.spec (λ c κs. search rules) returns (λ c. search rules) returns-2)
+pub next_in_body_spec : {M : Type 1} → statement M
+next_in_body_spec = tie.close (tie.spec (λ c κs. search rules) returns (λ c. search rules) returns-2)

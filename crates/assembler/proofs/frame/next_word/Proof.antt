@@ -5,9 +5,9 @@ use Rattle.assembler.proofs.Moves.{words-none, words-next}
 use Rattle.assembler.proofs.frame.next_word.Statement.{statement}
 use Rattle.assembler.proofs.frame.next_word.Tie as tie
 
-returns-2 : tie.Need-returns-2
-returns-2 c = let a = c.before.before.args in c.to.ensures ∙ sym (words-next a.n a.c c.before.if1.false)
+returns-2 : tie.Need-returns
+returns-2 c = let a = c.args in c.to.ensures ∙ sym (words-next a.n a.c c.if-n-eq0.false)
 
-pub next-word-spec : {M : Type 1} → statement M
-next-word-spec =
-    tie.close (tie.spec (λ c. sym (words-none c.before.args.n c.before.args.c c.if1.true)) (λ c. search rules) (λ c κs. search rules) returns-2)
+pub next_word_spec : {M : Type 1} → statement M
+next_word_spec =
+    tie.close (tie.spec (λ c. sym (words-none c.args.n c.args.c c.if-n-eq0.true)) (λ c. search rules) (λ c κs. search rules) returns-2)

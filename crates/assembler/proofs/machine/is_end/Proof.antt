@@ -8,11 +8,11 @@ use Rattle.assembler.proofs.Moves.{words-end}
 use Rattle.assembler.proofs.machine.is_end.Statement.{statement}
 use Rattle.assembler.proofs.machine.is_end.Tie as tie
 
-returns : tie.Need-returns
+returns : tie.Need-returns-in-Words
 returns c = let p = c.before.place.given in words-end p.0.0 ∙ ap (λ (q : Place). is_end (place_of q)) (sym p.1)
 
-pub is-end-spec : {M : Type 1} → statement M
-is-end-spec =
+pub is_end_spec : {M : Type 1} → statement M
+is_end_spec =
     tie.close
     (tie.spec
     (λ c. search rules) (λ c. search rules) (λ c. search rules) (λ c. search rules) (λ c. search rules) (λ c. search rules) (λ c. search rules)

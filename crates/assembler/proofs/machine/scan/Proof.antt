@@ -11,49 +11,49 @@ use Rattle.assembler.proofs.States.{step_fits, ComeTo, come-none, come-all, come
 use Rattle.assembler.proofs.machine.scan.Statement.{statement}
 use Rattle.assembler.proofs.machine.scan.Tie as tie
 
-abbrev invariant-loop : tie.invariant-loop
+abbrev invariant-loop : tie.invariant-loop-i
 invariant-loop bytes state₀ i₀ state i = (i ≤ length bytes) × Fits state × ComeTo (state_of state₀) bytes (state_of state) i
 
-abbrev decreases-loop : tie.decreases-loop
+abbrev decreases-loop : tie.decreases-loop-i
 decreases-loop bytes state₀ i₀ state i = length bytes - i
 
-loop-holds : tie.Need-loop-init invariant-loop decreases-loop
-loop-holds c = let s = c.before in (omega arith, s.requires, come-none (state_of s.args.from) s.args.bytes.now)
+loop-holds : tie.Need-loop-i-init invariant-loop decreases-loop
+loop-holds c = let s = c in (omega arith, s.requires, come-none (state_of s.args.from) s.args.bytes.now)
 
 -- the state after the byte at place i
-stepped : (c : tie.After-known-told invariant-loop decreases-loop) → let l = c.before.before.before.before.before.before in let s = l.before.before in
-    step (state_of l.loop.state) (get_or s.args.bytes.now l.loop.i 0) ≡ some (state_of c.before.next.given.0.0)
-stepped c = sym c.before.before.before.step.ensures ∙ ap state_after c.before.next.given.1
+stepped : (c : tie.In-At invariant-loop decreases-loop) → let l = c in let s = l in
+    step (state_of l.loop-i.state) (get_or s.args.bytes.now l.loop-i.i 0) ≡ some (state_of c.in-At.next)
+stepped c = sym c.step.ensures ∙ ap state_after c.in-At.is
 
-returns : tie.Need-returns invariant-loop decreases-loop
+returns : tie.Need-returns-in_default invariant-loop decreases-loop
 returns c =
-    let t = c.before.before in let i = t.before.before in let l = i.before in let s = l.before.before in
-    sym (come-dead (state_of s.args.from) s.args.bytes.now (state_of l.loop.state) l.loop.i l.loop.invariant.2 i.loop-test.true
-    (sym t.step.ensures ∙ ap state_after c.enum_told.given.1))
+    let t = c in let i = t in let l = i in let s = l in
+    sym (come-dead (state_of s.args.from) s.args.bytes.now (state_of l.loop-i.state) l.loop-i.i l.loop-i.invariant.2 i.loop-i-test.true
+    (sym t.step.ensures ∙ ap state_after c.in_default.is))
 
-returns-2 : tie.Need-returns-2 invariant-loop decreases-loop
+returns-2 : tie.Need-returns-then-is_end invariant-loop decreases-loop
 returns-2 c =
-    let e = c.before in let k = e.before in let i = k.before.before.before.before.before in let l = i.before in let s = l.before.before in
-    sym (come-end (state_of s.args.from) s.args.bytes.now (state_of l.loop.state) l.loop.i l.loop.invariant.2 i.loop-test.true
-    (state_of k.before.next.given.0.0) (stepped k) (sym e.is-end.ensures ∙ c.if1.true))
+    let e = c in let k = e.before.before in let i = k in let l = i in let s = l in
+    sym (come-end (state_of s.args.from) s.args.bytes.now (state_of l.loop-i.state) l.loop-i.i l.loop-i.invariant.2 i.loop-i-test.true
+    (state_of k.in-At.next) (stepped k) (sym e.is_end.ensures ∙ c.if-is_end.true))
 
-loop-again : tie.Need-loop-preserved invariant-loop decreases-loop
+loop-again : tie.Need-loop-i-preserved invariant-loop decreases-loop
 loop-again c =
-    let e = c.before in let k = e.before in let i = k.before.before.before.before.before in let l = i.before in let s = l.before.before in (
+    let e = c in let k = e.before.before in let i = k in let l = i in let s = l in (
       omega arith,
-      step_fits (state_of l.loop.state) (get_or s.args.bytes.now l.loop.i 0) (state_of k.before.next.given.0.0) (stepped k),
-      come-on (state_of s.args.from) s.args.bytes.now (state_of l.loop.state) l.loop.i l.loop.invariant.2 i.loop-test.true
-          (state_of k.before.next.given.0.0) (stepped k) (sym e.is-end.ensures ∙ c.if1.false),
+      step_fits (state_of l.loop-i.state) (get_or s.args.bytes.now l.loop-i.i 0) (state_of k.in-At.next) (stepped k),
+      come-on (state_of s.args.from) s.args.bytes.now (state_of l.loop-i.state) l.loop-i.i l.loop-i.invariant.2 i.loop-i-test.true
+          (state_of k.in-At.next) (stepped k) (sym e.is_end.ensures ∙ c.if-is_end.false),
     )
 
-returns-3 : tie.Need-returns-3 invariant-loop decreases-loop
+returns-3 : tie.Need-returns invariant-loop decreases-loop
 returns-3 c =
-    let l = c.before in let s = l.before.before in
-    sym (come-all (state_of s.args.from) s.args.bytes.now (state_of l.loop.state) l.loop.i l.loop.invariant.2 c.loop-test.false)
+    let l = c in let s = l in
+    sym (come-all (state_of s.args.from) s.args.bytes.now (state_of l.loop-i.state) l.loop-i.i l.loop-i.invariant.2 c.loop-i-test.false)
 
-pub scan-spec : {M : Type 1} → statement M
-scan-spec =
+pub scan_spec : {M : Type 1} → statement M
+scan_spec =
     tie.close
     (tie.spec
-    invariant-loop decreases-loop loop-holds (λ c. search rules) (λ c κs. c.before.before.loop.invariant.1) (λ c. search rules) (λ c. search rules) (λ c. search rules) returns
+    invariant-loop decreases-loop loop-holds (λ c. search rules) (λ c κs. c.loop-i.invariant.1) (λ c. search rules) (λ c. search rules) (λ c. search rules) returns
     (λ c κs. search rules) (λ c. search rules) returns-2 (λ c. search rules) (λ c. omega arith) loop-again returns-3)

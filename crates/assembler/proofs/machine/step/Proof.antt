@@ -11,32 +11,32 @@ use Rattle.assembler.proofs.States.{step-none, step-beyond, step-at}
 use Rattle.assembler.proofs.machine.step.Statement.{statement}
 use Rattle.assembler.proofs.machine.step.Tie as tie
 
-abbrev start : tie.After-known-told → tie.Start
-start c = c.before.before.before.before.before
+abbrev start : tie.In-To → tie.Start
+start c = c.before.before.before
 
 -- the place that the byte leads to
-reached : (c : tie.After-known-told) → let a = (start c).args in next (place_of a.state.place) a.c ≡ some (place_of c.before.place.given.0.0)
-reached c = sym c.before.before.before.next.ensures ∙ ap moved_to c.before.place.given.1
+reached : (c : tie.In-To) → let a = (start c).args in next (place_of a.state.place) a.c ≡ some (place_of c.in-To.place)
+reached c = sym c.next.ensures ∙ ap moved_to c.in-To.is
 
-returns : tie.Need-returns
+returns : tie.Need-returns-in_default
 returns c =
-    let n = c.before.before in let a = n.before.before.args in
-    sym (step-none (state_of a.state) a.c (sym n.next.ensures ∙ ap moved_to c.enum_told.given.1))
+    let n = c in let a = n.args in
+    sym (step-none (state_of a.state) a.c (sym n.next.ensures ∙ ap moved_to c.in_default.is))
 
-is-beyond-requires : tie.Need-is-beyond-requires
+is-beyond-requires : tie.Need-is_beyond-requires
 is-beyond-requires c κs =
     let s = start c in let a = s.args in
-    omega (arith, s.pre, need-most (place_of a.state.place) a.c (place_of c.before.place.given.0.0) (reached c))
+    omega (arith, s.requires, need-most (place_of a.state.place) a.c (place_of c.in-To.place) (reached c))
 
-returns-2 : tie.Need-returns-2
+returns-2 : tie.Need-returns-then-is_beyond
 returns-2 c =
-    let b = c.before in let k = b.before in let s = start k in let a = s.args in
-    sym (step-beyond (state_of a.state) a.c (place_of k.before.place.given.0.0) (reached k) s.pre (sym b.is-beyond.ensures ∙ c.if1.true))
+    let b = c in let k = b.before.before in let s = start k in let a = s.args in
+    sym (step-beyond (state_of a.state) a.c (place_of k.in-To.place) (reached k) s.requires (sym b.is_beyond.ensures ∙ c.if-is_beyond.true))
 
-returns-3 : tie.Need-returns-3
+returns-3 : tie.Need-returns
 returns-3 c =
-    let b = c.before in let k = b.before in let s = start k in let a = s.args in
-    sym (step-at (state_of a.state) a.c (place_of k.before.place.given.0.0) (reached k) s.pre (sym b.is-beyond.ensures ∙ c.if1.false))
+    let b = c in let k = b.before.before in let s = start k in let a = s.args in
+    sym (step-at (state_of a.state) a.c (place_of k.in-To.place) (reached k) s.requires (sym b.is_beyond.ensures ∙ c.if-is_beyond.false))
 
 pub step_spec : {M : Type 1} → statement M
 step_spec =

@@ -10,28 +10,28 @@ use Rattle.difference.proofs.fields.fields_apart.Statement.{statement}
 use Rattle.difference.proofs.fields.fields_apart.Tie as tie
 
 -- the test of the values
-value-is : (c : tie.After-same) → let a = c.before.before.before.before.before.args in
-    c.same.result ≡ same (fields a.r.now).value (fields a.q.now).value
+value-is : (c : tie.After-same-value) → let a = c.args in
+    c.same-value.result ≡ same (fields a.r.now).value (fields a.q.now).value
 value-is c =
-    let q = c.before in
-    c.same.ensures ∙ λ i. same (q.before.value.ensures i) (q.value2.ensures i)
+    let q = c in
+    c.same-value.ensures ∙ λ i. same (q.value.ensures i) (q.value-2.ensures i)
 
 returns : tie.Need-returns
 returns c =
-    let x = c.before in
-    let g = x.before in
-    let f = g.before in
-    let w = f.before in
-    let v = w.before in
+    let x = c in
+    let g = x in
+    let f = g in
+    let w = f in
+    let v = w in
     λ i. fields_of (record {
-      value = not (value-is v.before i);
-      version = not (eqb (v.version.ensures i) (w.version2.ensures i));
-      flags = not (eqb (f.flags.ensures i) (g.flags2.ensures i));
-      expiry = not (eqb (x.expiry.ensures i) (c.expiry2.ensures i));
+      value = not (value-is v.before.before.before.before.before.before i);
+      version = not (eqb (v.version.ensures i) (w.version-2.ensures i));
+      flags = not (eqb (f.flags.ensures i) (g.flags-2.ensures i));
+      expiry = not (eqb (x.expiry.ensures i) (c.expiry-2.ensures i));
     })
 
-pub fields-apart-spec : {M : Type 1} → statement M
-fields-apart-spec =
+pub fields_apart_spec : {M : Type 1} → statement M
+fields_apart_spec =
     tie.close
     (tie.spec
     (λ c κs. search rules)

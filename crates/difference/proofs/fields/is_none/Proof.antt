@@ -13,7 +13,7 @@ by_tests false false false true = refl
 by_tests false false false false = refl
 
 returns : tie.Need-returns
-returns c = let d = c.before.before.before.args.d in by_tests d.value d.version d.flags d.expiry
+returns c = let d = c.args.d in by_tests d.value d.version d.flags d.expiry
 
-pub is-none-spec : {M : Type 1} → statement M
-is-none-spec = tie.close (tie.spec returns)
+pub is_none_spec : {M : Type 1} → statement M
+is_none_spec = tie.close (tie.spec returns)

@@ -10,35 +10,35 @@ use Rattle.difference.proofs.line.put_change.Statement.{statement}
 use Rattle.difference.proofs.line.put_change.Tie as tie
 
 -- what the test told
-told : (c : tie.After-is-none) → let a = c.before.before.before.before.before.args in
+told : (c : tie.After-is_none) → let a = c.args in
     is_none (fields_apart (fields a.r.now) (fields a.q.now)) ≡ c.is_none.result
-told c = sym (c.is_none.ensures ∙ ap is_none c.before.fields-apart.ensures)
+told c = sym (c.is_none.ensures ∙ ap is_none c.fields_apart-d.ensures)
 
 -- the line that is due is the one that is written
-line-is : (c : tie.After-key) → let d = c.before.before.before.before in
-    let a = d.before.before.before.before.args in
-    lines_bytes (change_lines (fields a.r.now) (fields a.q.now)) ≡ line_bytes 126 c.key.result.now (fields_of d.fields-apart.result)
+line-is : (c : tie.After-key) → let d = c in
+    let a = d.args in
+    lines_bytes (change_lines (fields a.r.now) (fields a.q.now)) ≡ line_bytes 126 c.key.result.now (fields_of d.fields_apart-d.result)
 line-is c =
-    let e = c.before.before in
-    let d = e.before.before in
-    let a = d.before.before.before.before.args in
-    one-change (fields a.r.now).key (fields_apart (fields a.r.now) (fields a.q.now)) (told e.before ∙ e.if1.false)
-    ∙ λ i. line_bytes 126 (sym c.key.ensures i) (sym d.fields-apart.ensures i)
+    let e = c in
+    let d = e in
+    let a = d.args in
+    one-change (fields a.r.now).key (fields_apart (fields a.r.now) (fields a.q.now)) (told e.before.before.before ∙ e.if-is_none.false)
+    ∙ λ i. line_bytes 126 (sym c.key.ensures i) (sym d.fields_apart-d.ensures i)
 
-returns : tie.Need-returns
+returns : tie.Need-returns-then-is_none
 returns c =
-    let a = c.before.before.before.before.before.before.args in
-    rw (no_change (fields a.r.now).key (fields_apart (fields a.r.now) (fields a.q.now)) (told c.before ∙ c.if1.true))
+    let a = c.args in
+    rw (no_change (fields a.r.now).key (fields_apart (fields a.r.now) (fields a.q.now)) (told c.before ∙ c.if-is_none.true))
     (wrote_nothing a.at a.out.now)
 
-put-line-requires : tie.Need-put-line-requires
-put-line-requires c κs = rw (line-is c) at c.before.before.before.before.before.before.before.before.requires.1
+put-line-requires : tie.Need-put_line-requires
+put-line-requires c κs = rw (line-is c) at c.requires.1
 
-returns-2 : tie.Need-returns-2
-returns-2 c = let w = c.before.before in rw (line-is w.before) w.put-line.ensures
+returns-2 : tie.Need-returns
+returns-2 c = let w = c in rw (line-is w.before.before.before) w.put_line.ensures
 
-pub put-change-spec : {M : Type 1} → statement M
-put-change-spec =
+pub put_change_spec : {M : Type 1} → statement M
+put_change_spec =
     tie.close
     (tie.spec
     (λ c κs. search rules)

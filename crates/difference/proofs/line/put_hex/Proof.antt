@@ -15,21 +15,21 @@ use Rattle.difference.proofs.Texts.{length-hex}
 use Rattle.difference.proofs.line.put_hex.Statement.{statement}
 use Rattle.difference.proofs.line.put_hex.Tie as tie
 
-abbrev invariant-loop : tie.invariant-loop
+abbrev invariant-loop : tie.invariant-loop-i
 invariant-loop out₀ at s place₀ i₀ out place i =
     (i ≤ length s) × (place ≡ at + 2 * i) × (length out ≡ length out₀) × (written at (hex s) out₀ ≡ written place (hex (drop i s)) out)
 
-abbrev decreases-loop : tie.decreases-loop
+abbrev decreases-loop : tie.decreases-loop-i
 decreases-loop out₀ at s place₀ i₀ out place i = length s - i
 
 -- the next two digits have room
-room : (c : tie.In-loop invariant-loop decreases-loop) → c.before.loop.place + 2 ≤ length c.before.loop.out
-room c = omega (arith, length-hex c.before.before.before.before.args.s.now)
+room : (c : tie.In-loop-i invariant-loop decreases-loop) → c.loop-i.place + 2 ≤ length c.loop-i.out
+room c = omega (arith, length-hex c.args.s.now)
 
-hex-digit-requires : tie.Need-hex-digit-requires invariant-loop decreases-loop
-hex-digit-requires c κs = omega (arith, c.shared-slice-known2.given c.before.before.loop.i)
+hex-digit-requires : tie.Need-hex_digit-requires invariant-loop decreases-loop
+hex-digit-requires c κs = omega (arith, c.shared_slice_known-in-loop-i-1.given c.loop-i.i)
 
-slice-write-out-2 : tie.Need-slice-write-out-2 invariant-loop decreases-loop
+slice-write-out-2 : tie.Need-bounds-out-place-in-loop-i invariant-loop decreases-loop
 slice-write-out-2 c = simp length-set (omega (arith, room c.before.before.before.before))
 
 -- two digits are stored: those after them are to be written
@@ -41,32 +41,32 @@ two_digits place x y s b h =
     ∙ (written-first (place + 1) y s (set b place x) (simp length-set (omega arith))
     ∙ ap (λ (n : ℕ). written n s (set (set b place x) (place + 1) y)) e)
 
-loop-again : tie.Need-loop-preserved invariant-loop decreases-loop
+loop-again : tie.Need-loop-i-preserved invariant-loop decreases-loop
 loop-again c =
-    let d = c.before.before in
-    let t = d.before.before in
-    let l = t.before in
-    let s = l.before.before.before.args.s.now in
-    let digits : hex (drop l.loop.i s) ≡ d.hex-digit.result ∷ c.hex-digit2.result ∷ hex (drop (l.loop.i + 1) s) =
-    rw (add-one l.loop.i, drop-cons s l.loop.i 0 (omega arith), d.hex-digit.ensures, c.hex-digit2.ensures) in (
+    let d = c in
+    let t = d.before.before.before.before in
+    let l = t in
+    let s = l.args.s.now in
+    let digits : hex (drop l.loop-i.i s) ≡ d.hex_digit.result ∷ c.hex_digit-in-loop-i.result ∷ hex (drop (l.loop-i.i + 1) s) =
+    rw (add-one l.loop-i.i, drop-cons s l.loop-i.i 0 (omega arith), d.hex_digit.ensures, c.hex_digit-in-loop-i.ensures) in (
       omega arith,
       omega arith,
-      simp length-set l.loop.invariant.2,
-      l.loop.invariant.3 ∙ rw digits (two_digits l.loop.place _ _ (hex (drop (l.loop.i + 1) s)) l.loop.out (room t)),
+      simp length-set l.loop-i.invariant.2,
+      l.loop-i.invariant.3 ∙ rw digits (two_digits l.loop-i.place _ _ (hex (drop (l.loop-i.i + 1) s)) l.loop-i.out (room t)),
     )
 
 returns : tie.Need-returns invariant-loop decreases-loop
 returns c =
-    let l = c.before in
-    let s = l.before.before.before.args.s.now in
+    let l = c in
+    let s = l.args.s.now in
     let ended : length s ≤ l.loop.i = omega arith in
     record {
       place = omega (arith, length-hex s);
-      bytes = sym (l.loop.invariant.3 ∙ rw (drop_of_length-le s ended) (written-nil l.loop.place l.loop.out));
+      bytes = sym (l.loop-i.invariant.3 ∙ rw (drop_of_length-le s ended) (written-nil l.loop-i.place l.loop-i.out));
     }
 
-pub put-hex-spec : {M : Type 1} → statement M
-put-hex-spec =
+pub put_hex_spec : {M : Type 1} → statement M
+put_hex_spec =
     tie.close
     (tie.spec
     invariant-loop

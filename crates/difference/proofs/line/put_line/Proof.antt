@@ -29,25 +29,25 @@ marked c =
     rw e at (store (store (begun c)))
 
 -- all but the line feed
-almost : (c : tie.After-put-fields)
-    → Left c.before.before.before.before.before.before.before.before ((10 ∷ []) ∷ []) c.put-fields.new.0 c.put-fields.result
+almost : (c : tie.After-put_fields-end)
+    → Left c.before.before.before.before.before.before.before.before ((10 ∷ []) ∷ []) c.put_fields-end.new.out c.put_fields-end.result
 almost c =
-    let k = c.before.before.before.before in
-    next (next (marked k.before.before.before.before) k.put-hex.ensures) c.put-fields.ensures
+    let k = c in
+    next (next (marked k.before.before.before.before.before.before.before.before) k.put_hex-names.ensures) c.put_fields-end.ensures
 
-put-fields-requires : tie.Need-put-fields-requires
+put-fields-requires : tie.Need-put_fields-end-requires
 put-fields-requires c κs =
-    let k = c.before.before.before in
-    room (next (marked k.before.before.before.before) k.put-hex.ensures)
+    let k = c in
+    room (next (marked k.before.before.before.before.before.before.before) k.put_hex-names.ensures)
 
 returns : tie.Need-returns
 returns c = all (store (almost c.before.before))
 
-same_length : tie.Need-same-length
-same_length c = same_size c.before.before.before.before.before.before.before.before.before.before.requires (returns c)
+same_length : tie.Need-shape_of-out
+same_length c = same_size c.requires (returns c)
 
-pub put-line-spec : {M : Type 1} → statement M
-put-line-spec =
+pub put_line_spec : {M : Type 1} → statement M
+put_line_spec =
     tie.close
     (tie.spec
     (λ c. search rules)

@@ -9,32 +9,32 @@ use Rattle.difference.proofs.Stepping.{records-next, first_ended, second_ended}
 use Rattle.difference.proofs.walk.next_key.Statement.{statement}
 use Rattle.difference.proofs.walk.next_key.Tie as tie
 
-returns : tie.Need-returns
+returns : tie.Need-returns-then-first-walk
 returns c =
-    let a = c.before.before.before.before.before.before.args in
-    sym (first_ended a.before.now a.first.now a.after.now a.second.now a.walk.first a.walk.second c.if1.true)
+    let a = c.args in
+    sym (first_ended a.before.now a.first.now a.after.now a.second.now a.walk.first a.walk.second c.if-first-walk.true)
 
-returns-2 : tie.Need-returns-2
+returns-2 : tie.Need-returns-then-second-walk
 returns-2 c =
-    let e = c.before.before in
-    let a = e.before.before.before.before.before.before.args in
-    sym (second_ended a.before.now a.first.now a.after.now a.second.now a.walk.first a.walk.second (omega (arith, e.if1.false)) c.if2.true)
+    let e = c in
+    let a = e.args in
+    sym (second_ended a.before.now a.first.now a.after.now a.second.now a.walk.first a.walk.second (omega (arith, e.if-first-walk.false)) c.if-second-walk.true)
 
-returns-3 : tie.Need-returns-3
+returns-3 : tie.Need-returns
 returns-3 c =
-    let q = c.before in
-    let k = q.before.before in
-    let f = k.before.before in
-    let e = f.before.before in
-    let a = e.before.before.before.before.before.before.args in
-    let n = records-next a.before.now a.first.now a.walk.first (omega (arith, e.if1.false)) in
-    let o = records-next a.after.now a.second.now a.walk.second (omega (arith, f.if2.false)) in
-    let key-is = k.key.ensures ∙ ap (λ (r : Record). r.key) k.before.record-at.ensures.is in
-    let key2-is = q.key2.ensures ∙ ap (λ (r : Record). r.key) q.before.record-at2.ensures.is in
+    let q = c in
+    let k = q in
+    let f = k in
+    let e = f in
+    let a = e.args in
+    let n = records-next a.before.now a.first.now a.walk.first (omega (arith, e.if-first-walk.false)) in
+    let o = records-next a.after.now a.second.now a.walk.second (omega (arith, f.if-second-walk.false)) in
+    let key-is = k.key.ensures ∙ ap (λ (r : Record). r.key) k.record_at.ensures.is in
+    let key2-is = q.key-2.ensures ∙ ap (λ (r : Record). r.key) q.record_at-2.ensures.is in
     c.compare.ensures ∙ (λ x. compared (key-is x) (key2-is x)) ∙ sym (λ x. next_of (n x) (o x))
 
-pub next-key-spec : {M : Type 1} → statement M
-next-key-spec =
+pub next_key_spec : {M : Type 1} → statement M
+next_key_spec =
     tie.close
     (tie.spec
     returns

@@ -5,16 +5,16 @@ use Rattle.difference.proofs.Walking.{along-in-use}
 use Rattle.difference.proofs.walk.record_at.Statement.{statement}
 use Rattle.difference.proofs.walk.record_at.Tie as tie
 
-record-at-requires : tie.Need-record-at-requires
+record-at-requires : tie.Need-record_at-requires
 record-at-requires c κs =
-    let s = c.before.before.before in
+    let s = c in
     (s.requires.0.good.reads, along-in-use s.requires.0 s.args.i s.requires.1)
 
-pub record-at-spec : {M : Type 1} → statement M
-record-at-spec =
+pub record_at_spec : {M : Type 1} → statement M
+record_at_spec =
     tie.close
     (tie.spec
     (λ c. search rules)
-    (λ c. omega (arith, c.shared-slice-known3.given c.before.before.before.args.i))
+    (λ c. omega (arith, c.shared_slice_known-3-1.given c.args.i))
     record-at-requires
     (λ c. search rules))

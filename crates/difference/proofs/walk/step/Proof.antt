@@ -27,85 +27,85 @@ first_record s = let a = s.args in record_along a.before.now a.first.now a.walk.
 abbrev second_record : tie.Start → Record
 second_record s = let a = s.args in record_along a.after.now a.second.now a.walk.second
 
-told : (c : tie.After-next-key) → Passed c.before.before.before.before.before.before c.next-key.result
+told : (c : tie.After-next_key) → Passed c.before.before.before.before.before.before c.next_key.result
 told c =
     let s = c.before.before.before.before.before.before in
     let h = s.requires in
-    subst (Passed s) (sym c.next-key.ensures) (next-passes h.0.0 h.0.1 _ _ h.1.0.first h.1.0.second h.1.1)
+    subst (Passed s) (sym c.next_key.ensures) (next-passes h.0.0 h.0.1 _ _ h.1.0.first h.1.0.second h.1.1)
 
 -- ---- a key in the first table alone
 
-earlier : (c : tie.After-enum-told) → Passed c.before.before.before.before.before.before.before.before Earlier
-earlier c = let n = c.before.before in subst (Passed n.before.before.before.before.before.before) c.enum_told.given.1 (told n)
+earlier : (c : tie.In-Earlier) → Passed c.before.before.before.before.before.before.before Earlier
+earlier c = let n = c.before in subst (Passed n.before.before.before.before.before.before) c.in-Earlier.is (told n)
 
-removes : (c : tie.After-no-field)
-    → let k = c.before.before.before in
-    let s = k.before.before.before.before.before.before.before.before.before.before in
-    line_bytes 45 k.key.result.now (fields_of c.no_field.result) ≡ lines_bytes (removed (first_record s).key ∷ [])
+removes : (c : tie.After-no_field)
+    → let k = c in
+    let s = k.before.before.before.before.before.before.before.before.before.before.before.before in
+    line_bytes 45 k.key-key.result.now (fields_of c.no_field.result) ≡ lines_bytes (removed (first_record s).key ∷ [])
 removes c =
-    let k = c.before.before.before in
-    let key-is = k.key.ensures ∙ ap (λ (r : Record). r.key) k.before.record-at.ensures.is in
+    let k = c in
+    let key-is = k.key-key.ensures ∙ ap (λ (r : Record). r.key) k.record_at.ensures.is in
     (λ x. line_bytes 45 (key-is x) (c.no_field.ensures x)) ∙ sym (removed-line _)
 
-put-line-requires : tie.Need-put-line-requires
+put-line-requires : tie.Need-put_line-requires
 put-line-requires c κs =
     let t = c.before.before.before.before.before in
-    omega (arith, ap length (removes c), step_room t.before.before.before.before.before.before.before.before.requires.1.0 (earlier t))
+    omega (arith, ap length (removes c), step_room t.requires.1.0 (earlier t))
 
-returns : tie.Need-returns
+returns : tie.Need-returns-in-Earlier
 returns c =
-    let w = c.before.before in
-    record { lines = _; passes = earlier w.before.before.before.before.before.before; wrote = wrote_as (removes w.before) w.put-line.ensures }
+    let w = c in
+    record { lines = _; passes = earlier w.before.before.before.before.before.before.before.before; wrote = wrote_as (removes w.before.before.before) w.put_line.ensures }
 
 -- ---- a key in the second table alone
 
-later : (c : tie.After-enum-told2) → Passed c.before.before.before.before.before.before.before.before Later
-later c = let n = c.before.before in subst (Passed n.before.before.before.before.before.before) c.enum-told2.given.1 (told n)
+later : (c : tie.In-Later) → Passed c.before.before.before.before.before.before.before Later
+later c = let n = c.before in subst (Passed n.before.before.before.before.before.before) c.in-Later.is (told n)
 
-adds : (c : tie.After-no-field2)
-    → let k = c.before.before.before in
-    let s = k.before.before.before.before.before.before.before.before.before.before in
-    line_bytes 43 k.key2.result.now (fields_of c.no-field2.result) ≡ lines_bytes (added (second_record s).key ∷ [])
+adds : (c : tie.After-no_field-in-Later)
+    → let k = c in
+    let s = k.before.before.before.before.before.before.before.before.before.before.before.before in
+    line_bytes 43 k.key-key-in-Later.result.now (fields_of c.no_field-in-Later.result) ≡ lines_bytes (added (second_record s).key ∷ [])
 adds c =
-    let k = c.before.before.before in
-    let key-is = k.key2.ensures ∙ ap (λ (r : Record). r.key) k.before.record-at2.ensures.is in
-    (λ x. line_bytes 43 (key-is x) (c.no-field2.ensures x)) ∙ sym (added-line _)
+    let k = c in
+    let key-is = k.key-key-in-Later.ensures ∙ ap (λ (r : Record). r.key) k.record_at-in-Later.ensures.is in
+    (λ x. line_bytes 43 (key-is x) (c.no_field-in-Later.ensures x)) ∙ sym (added-line _)
 
-put-line-requires-2 : tie.Need-put-line-requires-2
+put-line-requires-2 : tie.Need-put_line-requires-in-Later
 put-line-requires-2 c κs =
     let t = c.before.before.before.before.before in
-    omega (arith, ap length (adds c), step_room t.before.before.before.before.before.before.before.before.requires.1.0 (later t))
+    omega (arith, ap length (adds c), step_room t.requires.1.0 (later t))
 
-returns-2 : tie.Need-returns-2
+returns-2 : tie.Need-returns-in-Later
 returns-2 c =
-    let w = c.before.before in
-    record { lines = _; passes = later w.before.before.before.before.before.before; wrote = wrote_as (adds w.before) w.put-line2.ensures }
+    let w = c in
+    record { lines = _; passes = later w.before.before.before.before.before.before.before.before; wrote = wrote_as (adds w.before.before.before) w.put_line-in-Later.ensures }
 
 -- ---- a key in both tables
 
-both : (c : tie.After-enum-told3) → Passed c.before.before.before.before.before.before.before.before Equal
-both c = let n = c.before.before in subst (Passed n.before.before.before.before.before.before) c.enum-told3.given.1 (told n)
+both : (c : tie.In-Equal) → Passed c.before.before.before.before.before.before.before Equal
+both c = let n = c.before in subst (Passed n.before.before.before.before.before.before) c.in-Equal.is (told n)
 
-changes : (c : tie.After-record-at4)
-    → let r = c.before in
+changes : (c : tie.After-record_at-q)
+    → let r = c in
     let s = r.before.before.before.before.before.before.before.before.before in
-    change_lines (fields r.record-at3.result.now) (fields c.record-at4.result.now)
+    change_lines (fields r.record_at-r.result.now) (fields c.record_at-q.result.now)
     ≡ change_lines (first_record s) (second_record s)
-changes c = λ x. change_lines (c.before.record-at3.ensures.is x) (c.record-at4.ensures.is x)
+changes c = λ x. change_lines (c.record_at-r.ensures.is x) (c.record_at-q.ensures.is x)
 
-put-change-requires : tie.Need-put-change-requires
+put-change-requires : tie.Need-put_change-requires
 put-change-requires c κs =
     let q = c.before.before.before in
-    let r = q.before in
-    let t = r.before in
-    let room = step_room t.before.before.before.before.before.before.before.before.requires.1.0 (both t) in
-    ((r.record-at3.ensures.in_use, q.record-at4.ensures.in_use), rw (changes q) room)
+    let r = q in
+    let t = r.before.before in
+    let room = step_room t.requires.1.0 (both t) in
+    ((r.record_at-r.ensures.in_use, q.record_at-q.ensures.in_use), rw (changes q) room)
 
-returns-3 : tie.Need-returns-3
+returns-3 : tie.Need-returns-in-Equal
 returns-3 c =
-    let w = c.before.before in
-    let q = w.before.before.before.before in
-    record { lines = _; passes = both q.before.before; wrote = wrote_as (ap lines_bytes (changes q)) w.put-change.ensures }
+    let w = c in
+    let q = w.before.before.before.before.before.before in
+    record { lines = _; passes = both q.before.before; wrote = wrote_as (ap lines_bytes (changes q)) w.put_change.ensures }
 
 pub step_spec : {M : Type 1} → statement M
 step_spec =
@@ -113,20 +113,20 @@ step_spec =
     (tie.spec
     (λ c κs. search rules)
     (λ c. search rules)
-    (λ c κs. (c.before.before.before.before.before.before.before.before.requires.0.0, omega (arith, (earlier c).first)))
+    (λ c κs. (c.requires.0.0, omega (arith, (earlier c).first)))
     (λ c κs. search rules)
     (λ c. search rules)
     (λ c κs. search rules)
     put-line-requires
     (λ c. search rules)
-    (λ c κs. (c.before.before.before.before.before.before.before.before.requires.0.1, omega (arith, (later c).second)))
+    (λ c κs. (c.requires.0.1, omega (arith, (later c).second)))
     (λ c κs. search rules)
     (λ c. search rules)
     (λ c κs. search rules)
     put-line-requires-2
     (λ c. search rules)
-    (λ c κs. (c.before.before.before.before.before.before.before.before.requires.0.0, omega (arith, (both c).first)))
-    (λ c κs. (c.before.before.before.before.before.before.before.before.before.requires.0.1, omega (arith, (both c.before).second)))
+    (λ c κs. (c.requires.0.0, omega (arith, (both c).first)))
+    (λ c κs. (c.requires.0.1, omega (arith, (both c.before).second)))
     (λ c. search rules)
     (λ c. search rules)
     put-change-requires

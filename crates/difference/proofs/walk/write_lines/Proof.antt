@@ -12,17 +12,17 @@ use Rattle.difference.proofs.Walking.{along-limit, Underway, goes_on, ends}
 use Rattle.difference.proofs.walk.write_lines.Statement.{statement}
 use Rattle.difference.proofs.walk.write_lines.Tie as tie
 
-abbrev invariant-loop : tie.invariant-loop
+abbrev invariant-loop : tie.invariant-loop-walk
 invariant-loop before first after second out₀ walk₀ out walk =
     Underway before first after second (lines_bytes (difference (slots_of form128 before) (slots_of form128 after))) out₀ out walk
 
-abbrev decreases-loop : tie.decreases-loop
+abbrev decreases-loop : tie.decreases-loop-walk
 decreases-loop before first after second out₀ walk₀ out walk = left first second walk.first walk.second
 
 limits : (s : tie.Start invariant-loop decreases-loop) → length s.args.first.now + length s.args.second.now ≤ 512
 limits s = omega (arith, along-limit s.requires.0, along-limit s.requires.1)
 
-loop-holds : tie.Need-loop-init invariant-loop decreases-loop
+loop-holds : tie.Need-loop-walk-init invariant-loop decreases-loop
 loop-holds c =
     let s = c.before.before.before.before.before in
     let a = s.args in
@@ -33,24 +33,24 @@ loop-holds c =
       rest = λ w. rw (merge-along a.before.now a.first.now a.after.now a.second.now h.0 h.1) at w;
     }
 
-step-requires : tie.Need-step-requires invariant-loop decreases-loop
+step-requires : tie.Need-step-walk-requires invariant-loop decreases-loop
 step-requires c κs =
-    let t = c.before in
-    let l = t.before.before in
-    let h = l.before.before.before.before.before.before.requires in
-    ((h.0, h.1), (l.loop.invariant.ready, t.if1.true))
+    let t = c in
+    let l = t in
+    let h = l.requires in
+    ((h.0, h.1), (l.loop-walk.invariant.ready, t.loop-walk-test.true))
 
-pub write-lines-spec : {M : Type 1} → statement M
-write-lines-spec =
+pub write_lines_spec : {M : Type 1} → statement M
+write_lines_spec =
     tie.close
     (tie.spec
     invariant-loop
     decreases-loop
     loop-holds
-    (λ c. let l = c.before in omega (arith, limits l.before.before.before.before.before.before, l.loop.invariant.ready.first, l.loop.invariant.ready.second))
+    (λ c. let l = c in omega (arith, limits l.before.before.before.before.before.before.before, l.loop-walk.invariant.ready.first, l.loop-walk.invariant.ready.second))
     (λ c. omega (arith, limits c.before.before.before.before.before.before.before))
     step-requires
-    (λ c. c.before.before.step.ensures.passes.less)
-    (λ c. goes_on c.before.before.before.before.before.before.loop.invariant c.before.before.step.ensures)
-    (λ c. c.before.before.loop.invariant.size)
-    (λ c. ends c.before.before.loop.invariant c.if1.false))
+    (λ c. c.step-walk.ensures.passes.less)
+    (λ c. goes_on c.loop-walk.invariant c.step-walk.ensures)
+    (λ c. c.loop-walk.invariant.size)
+    (λ c. ends c.loop-walk.invariant c.loop-walk-test.false))

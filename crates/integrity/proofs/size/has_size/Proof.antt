@@ -16,29 +16,29 @@ use Rattle.integrity.proofs.size.has_size.Statement.{statement}
 use Rattle.integrity.proofs.size.has_size.Tie as tie
 
 -- whole records, as many as the model counts
-whole-told : (c : tie.Else1) → let s = c.before.before.before.before in eqb (length s.args.table.now % record_size (form_of s.args.form)) 0 ≡ true
+whole-told : (c : tie.Else-n-size) → let s = c in eqb (length s.args.table.now % record_size (form_of s.args.form)) 0 ≡ true
 whole-told c =
-    let s = c.before.before.before.before in
-    eq-eqb _ _ (whole (form_of s.args.form) (length s.args.table.now) _ _ c.before.before.count.ensures c.before.size.ensures c.if1.false)
+    let s = c in
+    eq-eqb _ _ (whole (form_of s.args.form) (length s.args.table.now) _ _ c.count-n.ensures c.size.ensures c.if-n-size.false)
 
-count-told : (c : tie.Else1) → let s = c.before.before.before.before in count_of (form_of s.args.form) s.args.table.now ≡ c.before.before.count.result
-count-told c = sym c.before.before.count.ensures
+count-told : (c : tie.Else-n-size) → let s = c in count_of (form_of s.args.form) s.args.table.now ≡ c.count-n.result
+count-told c = sym c.count-n.ensures
 
-mul-if1 : tie.Need-overflow-mul-if1
+mul-if1 : tie.Need-overflow_mul-n
 mul-if1 c =
-    let s = c.before.before.before in
-    rw (c.size.ensures, c.before.count.ensures) (record { fits = omega (arith, div-add-mod' (length s.args.table.now) (record_size (form_of s.args.form))) })
+    let s = c in
+    rw (c.size.ensures, c.count-n.ensures) (record { fits = omega (arith, div-add-mod' (length s.args.table.now) (record_size (form_of s.args.form))) })
 
-returns : tie.Need-returns
+returns : tie.Need-returns-then-n-size
 returns c =
-    let s = c.before.before.before.before in
-    rw (ne_eqb _ _ (not-whole (form_of s.args.form) (length s.args.table.now) _ _ c.before.before.count.ensures c.before.size.ensures c.if1.true))
+    let s = c in
+    rw (ne_eqb _ _ (not-whole (form_of s.args.form) (length s.args.table.now) _ _ c.count-n.ensures c.size.ensures c.if-n-size.true))
 
-returns-2 : tie.Need-returns-2
-returns-2 c = rw (whole-told c.before, count-told c.before, lt-leb 1 c.before.before.before.count.result (omega arith))
+returns-2 : tie.Need-returns-then-n-lt1
+returns-2 c = rw (whole-told c.before, count-told c.before, lt-leb 1 c.count-n.result (omega arith))
 
-returns-3 : tie.Need-returns-3
-returns-3 c = rw (whole-told c.before, count-told c.before, le-leb 1 c.before.before.before.count.result (omega arith)) (sym (and-true _))
+returns-3 : tie.Need-returns
+returns-3 c = rw (whole-told c.before, count-told c.before, le-leb 1 c.count-n.result (omega arith)) (sym (and-true _))
 
-pub has-size-spec : {M : Type 1} → statement M
-has-size-spec = tie.close (tie.spec (λ c κs. search rules) (λ c κs. search rules) mul-if1 returns returns-2 returns-3)
+pub has_size_spec : {M : Type 1} → statement M
+has_size_spec = tie.close (tie.spec (λ c κs. search rules) (λ c κs. search rules) mul-if1 returns returns-2 returns-3)

@@ -22,70 +22,70 @@ use Rattle.order.proofs.index.enter.Statement.{statement}
 use Rattle.order.proofs.index.enter.Tie as tie
 
 -- the index of the slots after this one
-abbrev listed : (s : tie.Start) → Lists (form_of s.args.form) s.args.table.now s.args.first (suc s.args.slot) (length s.args.list.now) s.args.list.now s.args.n
+abbrev listed : (s : tie.Start) → Lists (form_of s.args.form) s.args.table.now (suc s.args.slot) (length s.args.list.now) s.args.list.now s.args.n
 listed s = lists-as (add-one s.args.slot) refl s.requires.1.1
 
 room : (s : tie.Start) → s.args.n < length s.args.list.now
 room s = omega (arith, fewer s.requires.0.keys (listed s) s.requires.1.0.0, s.requires.1.0.1)
 
 -- the bytes of the slot, in use or not
-told : (c : tie.After-in-use) → let a = c.before.before.before.before.args in c.in_use.result ≡ is_used (record_at (form_of a.form) a.slot a.table.now)
-told c = c.in_use.ensures ∙ ap is_used c.before.slot.ensures
+told : (c : tie.After-in_use) → let a = c.args in c.in_use.result ≡ is_used (record_at (form_of a.form) a.slot a.table.now)
+told c = c.in_use.ensures ∙ ap is_used c.slot-r.ensures
 
-here : (c : tie.Else1) → let a = c.before.before.before.before.before.args in
+here : (c : tie.Else-not-in_use) → let a = c.args in
     get_elem? (slots_of (form_of a.form) a.table.now) a.slot ≡ some (used (fields (record_at (form_of a.form) a.slot a.table.now)))
 here c =
-    let s = c.before.before.before.before.before in
-    slot-full (form_of s.args.form) s.args.table.now s.requires.0.reads s.args.slot s.requires.1.0.0 (sym (told c.before) ∙ not-false _ c.if1.false)
+    let s = c in
+    slot-full (form_of s.args.form) s.args.table.now s.requires.0.reads s.args.slot s.requires.1.0.0 (sym (told c.before) ∙ c.if-not-in_use.false)
 
-returns : tie.Need-returns
+returns : tie.Need-returns-then-not-in_use
 returns c =
     let s = c.before.before.before.before.before in
     skips s.requires.0.keys (listed s)
-    (slot-empty (form_of s.args.form) s.args.table.now s.requires.0.reads s.args.slot s.requires.1.0.0 (sym (told c.before) ∙ not-true _ c.if1.true))
+    (slot-empty (form_of s.args.form) s.args.table.now s.requires.0.reads s.args.slot s.requires.1.0.0 (sym (told c.before) ∙ c.if-not-in_use.true))
 
 key-requires : tie.Need-key-requires
 key-requires c κs =
-    let e = c.before in
-    let s = e.before.before.before.before.before in
+    let e = c in
+    let s = e in
     let f = form_of s.args.form in
     let b = record_at f s.args.slot s.args.table.now in
-    subst InUse (sym e.before.before.slot.ensures) (record {
+    subst InUse (sym e.slot-r.ensures) (record {
       form = f;
       lawful = lawful-form s.args.form;
-      is = used-in-use f b (slot-readable f s.args.table.now s.requires.0.reads s.args.slot s.requires.1.0.0) (sym (told e.before) ∙ not-false _ e.if1.false);
+      is = used-in-use f b (slot-readable f s.args.table.now s.requires.0.reads s.args.slot s.requires.1.0.0) (sym (told e.before) ∙ e.if-not-in_use.false);
     })
 
 -- what the search told, of this slot's key
-stands : (c : tie.After-find-place) → let s = c.before.before.before.before.before.before.before.before in
+stands : (c : tie.After-find_place) → let s = c in
     let f = form_of s.args.form in
-    Stands f s.args.table.now s.args.first s.args.list.now s.args.n (fields (record_at f s.args.slot s.args.table.now)).key c.find-place.result
+    Stands f s.args.table.now s.args.list.now s.args.n (fields (record_at f s.args.slot s.args.table.now)).key c.find_place.result
 stands c =
-    let k = c.before in
-    let s = k.before.before.before.before.before.before.before in
+    let k = c in
+    let s = k in
     let f = form_of s.args.form in
-    subst (λ (x : List ℕ). Stands f s.args.table.now s.args.first s.args.list.now s.args.n x c.find-place.result)
-    (k.key.ensures ∙ ap (λ (b : List ℕ). (fields b).key) k.before.before.before.before.slot.ensures) c.find-place.ensures.stands
+    subst (λ (x : List ℕ). Stands f s.args.table.now s.args.list.now s.args.n x c.find_place.result)
+    (k.key.ensures ∙ ap (λ (b : List ℕ). (fields b).key) k.slot-r.ensures) c.find_place.ensures
 
-returns-2 : tie.Need-returns-2
+returns-2 : tie.Need-returns-in-At
 returns-2 c =
-    let p = c.before.before in
-    let e = p.before.before.before in
+    let p = c.before in
+    let e = p.before.before in
     let s = e.before.before.before.before.before in
-    let w = subst (Stands _ _ _ _ _ _) c.enum_told.given.1 (stands p) in
+    let w = subst (Stands _ _ _ _ _) c.in-At.is (stands p) in
     absurd (not_there s.requires.0.keys (listed s) _ (here e) _ w.0 w.1)
 
 -- the place for the key
-between : (c : tie.After-known-told) → let s = c.before.before.before.before.before.before.before.before.before.before.before in
+between : (c : tie.In-Gap) → let s = c in
     let f = form_of s.args.form in
-    Between f s.args.table.now s.args.first s.args.list.now s.args.n (fields (record_at f s.args.slot s.args.table.now)).key c.before.place.given.0.0
-between c = subst (Stands _ _ _ _ _ _) c.before.place.given.1 (stands c.before.before.before)
+    Between f s.args.table.now s.args.list.now s.args.n (fields (record_at f s.args.slot s.args.table.now)).key c.in-Gap.place
+between c = subst (Stands _ _ _ _ _) c.in-Gap.is (stands c.before)
 
-returns-3 : tie.Need-returns-3
+returns-3 : tie.Need-returns-in-Gap
 returns-3 c =
-    let i = c.before.before in
-    let v = i.before.before in
-    let p = v.before.before.before in
+    let i = c in
+    let v = i.before.before.before.before in
+    let p = v in
     let e = p.before.before.before in
     let s = e.before.before.before.before.before in
     enters s.requires.0.keys (listed s) _ (here e) _ (between v) (room s) i.put_in.ensures
@@ -94,13 +94,12 @@ pub enter_spec : {M : Type 1} → statement M
 enter_spec =
     tie.close
     (tie.spec
-    (λ c κs. let s = c.before.before in inside-table (form_of s.args.form) s.args.table.now s.requires.0.reads s.args.slot s.requires.1.0.0)
-    (λ c κs. let s = c.before.before.before in omega (arith, ap length c.slot.ensures ∙ (slot-readable (form_of s.args.form) s.args.table.now s.requires.0.reads s.args.slot s.requires.1.0.0).size))
+    (λ c κs. let s = c in inside-table (form_of s.args.form) s.args.table.now s.requires.0.reads s.args.slot s.requires.1.0.0)
+    (λ c κs. let s = c in omega (arith, ap length c.slot-r.ensures ∙ (slot-readable (form_of s.args.form) s.args.table.now s.requires.0.reads s.args.slot s.requires.1.0.0).size))
     returns key-requires
-    (λ c κs. let s = c.before.before.before.before.before.before.before in (s.requires.0.reads, ascends s.requires.0.keys (listed s)))
+    (λ c κs. let s = c.before.before.before.before.before.before in (s.requires.0.reads, ascends s.requires.0.keys (listed s)))
     (λ c. search rules) (λ c. search rules)
-    (λ c. let s = c.before.before.before.before.before.before.before.before.before.before.before.before in omega (arith, s.requires.1.0.0, s.requires.1.0.2))
-    (λ c. let s = c.before.before.before.before.before.before.before.before.before.before.before.before in omega (arith, s.requires.1.0.0, s.requires.1.0.2))
-    (λ c κs. let v = c.before in let s = v.before.before.before.before.before.before.before.before.before.before.before in ((between v).within, room s))
-    (λ c. let s = c.before.before.before.before.before.before.before.before.before.before.before.before.before.before.before in omega (arith, room s, s.requires.1.0.0, fewer s.requires.0.keys (listed s) s.requires.1.0.0, slots-limit (form_of s.args.form) s.args.table.now s.requires.0.reads))
+    (λ c. let s = c in omega (arith, s.requires.1.0.0, slots-limit (form_of s.args.form) s.args.table.now s.requires.0.reads))
+    (λ c κs. let v = c.before in let s = v.before.before.before.before.before.before.before.before in ((between v).within, room s))
+    (λ c. let s = c.before.before.before.before.before.before.before.before.before.before.before.before in omega (arith, room s, s.requires.1.0.0, fewer s.requires.0.keys (listed s) s.requires.1.0.0, slots-limit (form_of s.args.form) s.args.table.now s.requires.0.reads))
     (λ c. search rules) returns-2 (λ c. search rules) returns-3)

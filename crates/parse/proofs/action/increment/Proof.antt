@@ -11,7 +11,7 @@ use Rattle.parse.proofs.action.increment.Tie as tie
 
 returns : tie.Need-returns
 unfolding model_action
-returns c = λ v. ap (λ (z : ℤ). action_of EXINCRBY v z (model_said c.before.args.said)) (back_is c.before.ranges.by)
+returns c = λ v. ap (λ (z : ℤ). action_of EXINCRBY v z (model_said c.args.said)) (back_is c.ranges.by)
 
 pub increment_spec : {M : Type 1} → statement M
 increment_spec = tie.close (tie.spec returns)

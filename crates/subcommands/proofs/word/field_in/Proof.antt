@@ -20,32 +20,32 @@ module _ (c : tie.Start) where
   abbrev of : IntType → Option Field
   of i = Optional.◌>>=◌ (offset_in i c.args.offset.now) λ at. some (field i at)
 
-typed : (c : tie.After-type-in) {x : TypeRead} → c.type-in.result ≡ x → let b = c.before.before.before in
+typed : (c : tie.After-type_in) {x : TypeRead} → c.type_in.result ≡ x → let b = c.before.before.before in
     (checked_type_read x >>= λ i. given 9 (of b i)) ≡ given 9 (field_in b.args.int.now b.args.offset.now)
 typed c e =
     let b = c.before.before.before in
-    ap (λ (x : Checked IntType). x >>= λ i. given 9 (of b i)) (ap checked_type_read (sym e) ∙ c.type-in.ensures)
+    ap (λ (x : Checked IntType). x >>= λ i. given 9 (of b i)) (ap checked_type_read (sym e) ∙ c.type_in.ensures)
     ∙ given-then 9 (type_in b.args.int.now) (of b)
 
-placed : (c : tie.After-offset-in) {x : OffsetRead} → c.offset-in.result ≡ x → let i = c.before.before in let b = i.before.before.before.before.before in
-    (checked_offset_read x >>= λ at. ok (field (model_int i.int.given.0.0) at)) ≡ given 9 (field_in b.args.int.now b.args.offset.now)
+placed : (c : tie.After-offset_in) {x : OffsetRead} → c.offset_in.result ≡ x → let i = c in let b = i in
+    (checked_offset_read x >>= λ at. ok (field (model_int i.in-Known.int) at)) ≡ given 9 (field_in b.args.int.now b.args.offset.now)
 placed c e =
-    let i = c.before.before in
-    let b = i.before.before.before.before.before in
-    let int = model_int i.int.given.0.0 in
-    ap (λ (x : Checked ℕ). x >>= λ at. ok (field int at)) (ap checked_offset_read (sym e) ∙ c.offset-in.ensures)
-    ∙ (given-then 9 (offset_in int b.args.offset.now) (λ at. some (field int at)) ∙ typed i.before.before i.int.given.1)
+    let i = c in
+    let b = i in
+    let int = model_int i.in-Known.int in
+    ap (λ (x : Checked ℕ). x >>= λ at. ok (field int at)) (ap checked_offset_read (sym e) ∙ c.offset_in.ensures)
+    ∙ (given-then 9 (offset_in int b.args.offset.now) (λ at. some (field int at)) ∙ typed i.before.before i.in-Known.is)
 
-pub field-in-spec : {M : Type 1} → statement M
-field-in-spec =
+pub field_in_spec : {M : Type 1} → statement M
+field_in_spec =
     tie.close
     (tie.spec
     (λ c κs. search rules)
     (λ c. search rules)
     (λ c. search rules)
-    (λ c. typed c.before.before c.enum_told.given.1)
+    (λ c. typed c.before c.in_default.is)
     (λ c κs. search rules)
     (λ c. search rules)
     (λ c. search rules)
-    (λ c. placed c.before.before c.enum-told2.given.1)
-    (λ c. placed c.before.before.before c.before.offset.given.1))
+    (λ c. placed c.before c.in_default-offset_in.is)
+    (λ c. placed c.before c.in-Bit.is))

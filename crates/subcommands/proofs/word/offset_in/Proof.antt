@@ -19,8 +19,8 @@ use Rattle.subcommands.proofs.word.offset_in.Statement.{statement}
 use Rattle.subcommands.proofs.word.offset_in.Tie as tie
 
 -- the number after #
-module _ (c : tie.After-read-below) where
-  abbrev hash : tie.Then3
+module _ (c : tie.After-read_below) where
+  abbrev hash : tie.Then-w-eq35
   hash = c.before.before
 
   abbrev start : tie.Start
@@ -33,31 +33,31 @@ module _ (c : tie.After-read-below) where
 
   in-fields : {x : Natural} → c.read_below.result ≡ x
       → offset_in (model_int start.args.int) start.args.w.now ≡ map (◌*◌ start.args.int.width) (said_by x)
-  in-fields e = offset-fields (model_int start.args.int) start.args.w.now hash.if3.taken (number e)
+  in-fields e = offset-fields (model_int start.args.int) start.args.w.now hash.if-w-eq35.true (number e)
 
 -- a width of 8 bits and a number of 32
-mul-t17 : tie.Need-overflow-mul-t17
+mul-t17 : tie.Need-overflow_mul-result
 mul-t17 c =
-    let n = c.before.before in
+    let n = c in
     let r = n.before.before in
     let width : (start r).args.int.width ≤ 255 = omega arith in
-    record { fits = omega (arith, mul-le-mul_right n.n.given.0.0 width, below-limit (drop 1 (start r).args.w.now) (number r n.n.given.1)) }
+    record { fits = omega (arith, mul-le-mul_right n.in-Value.n width, below-limit (drop 1 (start r).args.w.now) (number r n.in-Value.is)) }
 
 -- the number of the whole word
-plain : (c : tie.After-read-below2) {x : Natural} → c.read-below2.result ≡ x → let a = c.before.before.before.before.before.before.before.args in
+plain : (c : tie.After-read_below-2) {x : Natural} → c.read_below-2.result ≡ x → let a = c.args in
     offset_in (model_int a.int) a.w.now ≡ said_by x
 plain c e =
-    let h = c.before in
-    let a = h.before.before.before.before.before.before.args in
-    offset-plain (model_int a.int) a.w.now h.before.before.if2.false h.if3.false ∙ said (read_below offset_limit a.w.now) c.read-below2.ensures e
+    let h = c in
+    let a = h.args in
+    offset-plain (model_int a.int) a.w.now h.if-w-eq0.false h.if-w-eq35.false ∙ said (read_below offset_limit a.w.now) c.read_below-2.ensures e
 
-pub offset-in-spec : {M : Type 1} → statement M
-offset-in-spec =
+pub offset_in_spec : {M : Type 1} → statement M
+offset_in_spec =
     tie.close
     (tie.spec
     (λ c κs. search rules)
-    (λ c. let d = c.before in sym (ap (given 9) (offset-digit _ d.before.before.args.w.now _ d.only-digit.ensures (omega (arith, c.if1.true)))))
-    (λ c. sym (ap (given 9) (offset-empty _ _ c.if2.true)))
+    (λ c. let d = c in sym (ap (given 9) (offset-digit _ d.args.w.now _ d.only_digit-digit.ensures (omega (arith, c.if-digit-lt10.true)))))
+    (λ c. sym (ap (given 9) (offset-empty _ _ c.if-w-eq0.true)))
     (λ c. search rules)
     (λ c. search rules)
     (λ c. search rules)
@@ -65,12 +65,12 @@ offset-in-spec =
     (λ c κs. search rules)
     (λ c. search rules)
     (λ c. search rules)
-    (λ c. sym (ap (given 9) (in-fields c.before.before c.enum_told.given.1)))
+    (λ c. sym (ap (given 9) (in-fields c.before c.in_default.is)))
     (λ c. search rules)
     mul-t17
-    (λ c. let n = c.before.before in sym (ap (given 9) (in-fields n.before.before n.n.given.1)))
+    (λ c. let n = c in sym (ap (given 9) (in-fields n.before.before n.in-Value.is)))
     (λ c κs. search rules)
     (λ c. search rules)
     (λ c. search rules)
-    (λ c. sym (ap (given 9) (plain c.before.before c.enum-told2.given.1)))
-    (λ c. let n = c.before in sym (ap (given 9) (plain n.before.before n.n2.given.1))))
+    (λ c. sym (ap (given 9) (plain c.before c.in_default-read_below.is)))
+    (λ c. let n = c in sym (ap (given 9) (plain n.before n.in-Value-read_below.is))))

@@ -18,10 +18,10 @@ one w e = ap (λ (n : ℕ). cond (eqb n 1) (digit_at w 0) 10) (sym e)
 other : (w : List ℕ) → (length w ≡ 1 → ⊥) → 10 ≡ only_digit w
 other w n = rw (ne_eqb (length w) 1 n)
 
-pub only-digit-spec : {M : Type 1} → statement M
-only-digit-spec =
+pub only_digit_spec : {M : Type 1} → statement M
+only_digit_spec =
     tie.close
     (tie.spec
     (λ c κs. search rules)
-    (λ c. let t = c.before in c.digit_at.ensures ∙ one t.before.before.args.w.now t.if1.true)
-    (λ c. other c.before.before.args.w.now c.if1.false))
+    (λ c. let t = c in c.digit_at.ensures ∙ one t.args.w.now t.if-w-eq1.true)
+    (λ c. other c.args.w.now c.if-w-eq1.false))

@@ -17,19 +17,19 @@ use Rattle.subcommands.proofs.word.set_of.Statement.{statement}
 use Rattle.subcommands.proofs.word.set_of.Tie as tie
 
 -- what the SET comes to, by the test
-tested : (c : tie.After-fits2) {b : Bool} → c.fits2.result ≡ b → let a = c.before.before.args in
+tested : (c : tie.After-fits) {b : Bool} → c.fits.result ≡ b → let a = c.args in
     set_by a.field a.number ≡ (cond b (some a.number) none >>= λ z. some (set (model_field a.field) z ∷ []))
 tested c e =
-    let a = c.before.before.args in
+    let a = c.args in
     ap (λ (b : Bool). cond b (some a.number) none >>= λ z. some (set (model_field a.field) z ∷ []))
-    (ap (fits (model_int a.field.int)) (sym (back_is c.before.before.ranges.number)) ∙ (sym c.fits2.ensures ∙ e))
+    (ap (fits (model_int a.field.int)) (sym (back_is c.ranges.number)) ∙ (sym c.fits.ensures ∙ e))
 
-pub set-of-spec : {M : Type 1} → statement M
-set-of-spec =
+pub set_of_spec : {M : Type 1} → statement M
+set_of_spec =
     tie.close
     (tie.spec
     (λ c κs. search rules)
-    (λ c. sym (ap (given 9) (tested c.before (not-true c.before.fits2.result c.if1.true))))
-    (λ c. let a = c.before.before.before in
+    (λ c. sym (ap (given 9) (tested c.before (c.if-not-fits.true))))
+    (λ c. let a = c in
     ap (λ (z : ℤ). ok (set (model_field a.args.field) z ∷ [])) (back_is a.ranges.number)
-    ∙ sym (ap (given 9) (tested c.before (not-false c.before.fits2.result c.if1.false)))))
+    ∙ sym (ap (given 9) (tested c.before (c.if-not-fits.false)))))

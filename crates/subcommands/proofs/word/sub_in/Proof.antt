@@ -28,7 +28,7 @@ abbrev goal : tie.Start → Checked (List Sub)
 goal c = given 9 (sub_by c.args.operation c.args.int.now c.args.offset.now c.args.number.now)
 
 -- the field
-module _ (c : tie.After-field-in) where
+module _ (c : tie.After-field_in) where
   abbrev start : tie.Start
   start = c.before.before.before.before
 
@@ -44,80 +44,80 @@ module _ (c : tie.After-field-in) where
       ∙ sym (ap (given 9) (by_field a.operation a.int.now a.offset.now a.number.now)))
 
 -- the field that was found
-module _ (c : tie.After-known-told) where
-  abbrev fielded : tie.After-field-in
-  fielded = c.before.before.before
+module _ (c : tie.In-Known) where
+  abbrev fielded : tie.After-field_in
+  fielded = c.before
 
   abbrev field : Field
-  field = c.before.field.given.0.0
+  field = c.in-Known.field
 
   acted : {z : Option ℤ} → read_signed (start fielded).args.number.now ≡ z
       → given 9 (acting (start fielded).args.operation (model_field field) z) ≡ goal (start fielded)
-  acted e = ap (λ (z : Option ℤ). given 9 (acting (start fielded).args.operation (model_field field) z)) (sym e) ∙ placed fielded c.before.field.given.1
+  acted e = ap (λ (z : Option ℤ). given 9 (acting (start fielded).args.operation (model_field field) z)) (sym e) ∙ placed fielded c.in-Known.is
 
 -- the number that was read
-module _ (c : tie.After-number) where
-  abbrev signed : tie.After-read-signed
-  signed = c.before.before
+module _ (c : tie.In-Value) where
+  abbrev signed : tie.After-read_signed
+  signed = c.before
 
-  abbrev known : tie.After-known-told
+  abbrev known : tie.In-Known
   known = signed.before.before
 
   abbrev number : ℤ
-  number = c.number.given.0.0
+  number = c.in-Value.number
 
   numbered : given 9 (acting (start (fielded known)).args.operation (model_field (field known)) (some number)) ≡ goal (start (fielded known))
-  numbered = acted known (signed-value _ number (sym c.number.given.1 ∙ signed.read-signed.ensures))
+  numbered = acted known (signed-value _ number (sym c.in-Value.is ∙ signed.read_signed.ensures))
 
-fits : (c : tie.After-known-told2) → SFits w64 (number c.before)
-fits c = record { sfits = c.known-told2.given.0.1 }
+fits : (c : tie.In-Value) → SFits w64 (number c)
+fits c = record { sfits = c.in-Value.known_told-in-Value-1-own.given.0.1 }
 
 -- GET
-returns-2 : tie.Need-returns-2
+returns-2 : tie.Need-returns-in-Get
 returns-2 c =
-    let k = c.before.before in
-    ap (given 9) (gets (field k) c.enum-told2.given.1 (pos 0) (read_signed (start (fielded k)).args.number.now)) ∙ acted k refl
+    let k = c.before in
+    ap (given 9) (gets (field k) c.in-Get.is (pos 0) (read_signed (start (fielded k)).args.number.now)) ∙ acted k refl
 
 -- no number
-returns-3 : tie.Need-returns-3
+returns-3 : tie.Need-returns-in_default-read_signed
 returns-3 c =
-    let r = c.before.before in
-    let k = r.before.before in
-    sym (ap (given 9) (no_number (start (fielded k)).args.operation r.before.match2.keys2 (model_field (field k))))
-    ∙ acted k (signed-bad (read_signed (start (fielded k)).args.number.now) (sym c.enum-told3.given.1 ∙ r.read-signed.ensures))
+    let r = c in
+    let k = r.before.before.before in
+    sym (ap (given 9) (no_number (start (fielded k)).args.operation r.in_default-operation.in_default-operation-own.keys2 (model_field (field k))))
+    ∙ acted k (signed-bad (read_signed (start (fielded k)).args.number.now) (sym c.in_default-read_signed.is ∙ r.read_signed.ensures))
 
 -- SET
-set-of-requires : tie.Need-set-of-requires
+set-of-requires : tie.Need-set_of-requires
 set-of-requires c κs =
-    let k = known c.before.before.before in
+    let k = known c.before in
     let a = (start (fielded k)).args in
     field-known a.int.now a.offset.now (model_field (field k))
-    (given_is 9 (some (model_field (field k))) (field_in a.int.now a.offset.now) (field_is (fielded k) k.before.field.given.1))
+    (given_is 9 (some (model_field (field k))) (field_in a.int.now a.offset.now) (field_is (fielded k) k.in-Known.is))
 
-returns-4 : tie.Need-returns-4
+returns-4 : tie.Need-returns-in-Set
 returns-4 c =
-    let e = c.before in
-    let n = e.before.before.before in
-    c.set-of.ensures
+    let e = c in
+    let n = e.before.before in
+    c.set_of.ensures
     ∙ (ap (λ (z : ℤ). given 9 (set_by (field (known n)) z)) (back_is (fits e.before.before))
-    ∙ (ap (given 9) (sets (field (known n)) e.enum-told4.given.1 (number n)) ∙ numbered n))
+    ∙ (ap (given 9) (sets (field (known n)) e.in-Set.is (number n)) ∙ numbered n))
 
 -- INCRBY
-returns-5 : tie.Need-returns-5
+returns-5 : tie.Need-returns
 returns-5 c =
-    let n = c.before.before in
+    let n = c.before in
     let op = (start (fielded (known n))).args.operation in
     ap (λ (z : ℤ). given 9 (some (model_sub (record { operation = op; field = field (known n); number = z }) ∷ []))) (back_is (fits c.before))
-    ∙ (ap (given 9) (adds op (signed n).before.match2.keys2 c.match4.keys2 (field (known n)) (number n)) ∙ numbered n)
+    ∙ (ap (given 9) (adds op (signed n).in_default-operation.in_default-operation-own.keys2 c.in_default-operation-2.in_default-operation-2-own.keys2 (field (known n)) (number n)) ∙ numbered n)
 
-pub sub-in-spec : {M : Type 1} → statement M
-sub-in-spec =
+pub sub_in_spec : {M : Type 1} → statement M
+sub_in_spec =
     tie.close
     (tie.spec
     (λ c κs. search rules)
     (λ c. search rules)
     (λ c. search rules)
-    (λ c. placed c.before.before c.enum_told.given.1)
+    (λ c. placed c.before c.in_default.is)
     (λ c. search rules)
     returns-2
     (λ c κs. search rules)

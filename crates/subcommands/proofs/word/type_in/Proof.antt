@@ -14,32 +14,32 @@ use Rattle.subcommands.proofs.Types.{letter-other, type-empty, type-known, type-
 use Rattle.subcommands.proofs.word.type_in.Statement.{statement}
 use Rattle.subcommands.proofs.word.type_in.Tie as tie
 
-returns-2 : tie.Need-returns-2
+returns-2 : tie.Need-returns-then-w-eq105
 returns-2 c =
-    let t = c.before.before in
-    c.type-of.ensures
+    let t = c in
+    c.type_of.ensures
     ∙ ap (given 9)
-    (ap (λ (n : ℕ). only is_int_type (some (type_of true n))) c.before.width-in.ensures
-    ∙ type-known _ (omega (arith, t.before.before.if1.false)) (ap sign_in t.if2.true))
+    (ap (λ (n : ℕ). only is_int_type (some (type_of true n))) c.width_in.ensures
+    ∙ type-known _ (omega (arith, t.if-w-eq0.false)) (ap sign_in t.if-w-eq105.true))
 
-returns-3 : tie.Need-returns-3
+returns-3 : tie.Need-returns-then-w-eq117
 returns-3 c =
-    let t = c.before.before in
-    c.type-of2.ensures
+    let t = c in
+    c.type_of-then-w-eq117.ensures
     ∙ ap (given 9)
-    (ap (λ (n : ℕ). only is_int_type (some (type_of false n))) c.before.width-in2.ensures
-    ∙ type-known _ (omega (arith, t.before.before.before.before.if1.false)) (ap sign_in t.if3.true))
+    (ap (λ (n : ℕ). only is_int_type (some (type_of false n))) c.width_in-then-w-eq117.ensures
+    ∙ type-known _ (omega (arith, t.if-w-eq0.false)) (ap sign_in t.if-w-eq117.true))
 
-returns-4 : tie.Need-returns-4
+returns-4 : tie.Need-returns
 returns-4 c =
-    let i = c.before.before in
-    sym (ap (given 9) (type-unknown _ (omega (arith, i.before.before.if1.false)) (letter-other i.if2.false c.if3.false)))
+    let i = c in
+    sym (ap (given 9) (type-unknown _ (omega (arith, i.if-w-eq0.false)) (letter-other i.if-w-eq105.false c.if-w-eq117.false)))
 
-pub type-in-spec : {M : Type 1} → statement M
-type-in-spec =
+pub type_in_spec : {M : Type 1} → statement M
+type_in_spec =
     tie.close
     (tie.spec
-    (λ c. sym (ap (given 9) (type-empty _ c.if1.true)))
+    (λ c. sym (ap (given 9) (type-empty _ c.if-w-eq0.true)))
     (λ c. search rules)
     (λ c κs. search rules)
     (λ c κs. search rules)

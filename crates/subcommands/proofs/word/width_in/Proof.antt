@@ -5,38 +5,38 @@ use Rattle.subcommands.proofs.Widths.{width-none, width_one, width-short, width-
 use Rattle.subcommands.proofs.word.width_in.Statement.{statement}
 use Rattle.subcommands.proofs.word.width_in.Tie as tie
 
-returns : tie.Need-returns
-returns c = let f = c.before in width-none _ f.digit_at.ensures c.if1.true
+returns : tie.Need-returns-then-first-gt9
+returns c = let f = c in width-none _ f.digit_at-first.ensures c.if-first-gt9.true
 
-returns-2 : tie.Need-returns-2
-returns-2 c = let f = c.before.before in width_one _ f.digit_at.ensures c.before.if1.false c.if2.true
+returns-2 : tie.Need-returns-then-w-eq2
+returns-2 c = let f = c in width_one _ f.digit_at-first.ensures c.if-first-gt9.false c.if-w-eq2.true
 
-returns-3 : tie.Need-returns-3
+returns-3 : tie.Need-returns-then-second-gt9
 returns-3 c =
-    let b = c.before.before in
-    width-short _ b.before.before.digit_at.ensures b.before.if1.false c.before.digit-at2.ensures b.if2.false c.if3.true
+    let b = c in
+    width-short _ b.digit_at-first.ensures b.if-first-gt9.false c.digit_at-second.ensures b.if-w-eq2.false c.if-second-gt9.true
 
-returns-4 : tie.Need-returns-4
+returns-4 : tie.Need-returns-then-w-ne3
 returns-4 c =
-    let b = c.before.before.before in
-    width-long _ b.before.before.digit_at.ensures b.before.if1.false c.before.before.digit-at2.ensures b.if2.false c.if4.true
+    let b = c in
+    width-long _ b.digit_at-first.ensures b.if-first-gt9.false c.digit_at-second.ensures b.if-w-eq2.false c.if-w-ne3.true
 
-returns-5 : tie.Need-returns-5
+returns-5 : tie.Need-returns-then-first-eq0
 returns-5 c =
-    let t = c.before.before in
-    let b = t.before.before in
-    width-zero _ b.before.before.digit_at.ensures b.before.if1.false t.before.digit-at2.ensures b.if2.false t.if3.false c.before.if4.false
-    (omega (arith, c.if5.true, b.before.if1.false))
+    let t = c in
+    let b = t in
+    width-zero _ b.digit_at-first.ensures b.if-first-gt9.false t.digit_at-second.ensures b.if-w-eq2.false t.if-second-gt9.false c.if-w-ne3.false
+    (omega (arith, c.if-first-eq0.true, b.if-first-gt9.false))
 
-returns-6 : tie.Need-returns-6
+returns-6 : tie.Need-returns
 returns-6 c =
-    let t = c.before.before in
-    let b = t.before.before in
-    width_two _ b.before.before.digit_at.ensures b.before.if1.false t.before.digit-at2.ensures b.if2.false t.if3.false c.before.if4.false
-    (λ z. omega (arith, z, c.if5.false))
+    let t = c in
+    let b = t in
+    width_two _ b.digit_at-first.ensures b.if-first-gt9.false t.digit_at-second.ensures b.if-w-eq2.false t.if-second-gt9.false c.if-w-ne3.false
+    (λ z. omega (arith, z, c.if-first-eq0.false))
 
-pub width-in-spec : {M : Type 1} → statement M
-width-in-spec =
+pub width_in_spec : {M : Type 1} → statement M
+width_in_spec =
     tie.close
     (tie.spec
     (λ c κs. search rules)
