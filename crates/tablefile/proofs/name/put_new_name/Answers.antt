@@ -1,9 +1,8 @@
 -- The folder and the name are two pieces side by side.
-use Rattle.std.proofs.Common.{rules, ◌≡◌, ◌+◌, ◌≤◌, length, ℕ, refl}
+use Rattle.std.proofs.Common.{length, refl}
 use native.Mathlib.Omega.{arith}
 use Rattle.slice.specs.Wrote.{Wrote}
 use Rattle.slice.proofs.Writing.{wrote_then}
-use Rattle.tablefile.specs.Names.{new_name, after_slash}
 use Rattle.tablefile.proofs.name.put_new_name.Goals as goal
 
 pub returns : goal.returns

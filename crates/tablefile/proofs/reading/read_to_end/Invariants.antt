@@ -1,5 +1,5 @@
 -- What is left of the buffer falls; the buffer keeps its length.
-use Rattle.std.proofs.Common.{◌-◌, ◌≤◌, length, ◌≡◌, ℕ, ◌+◌, ◌*◌, ◌<◌}
+use Rattle.std.proofs.Common.{◌-◌, ◌≤◌, length, ◌≡◌}
 use Rattle.tablefile.proofs.reading.read_to_end.Given as goal
 
 abbrev pub invariant-loop-done : goal.invariant-loop-done

@@ -1,5 +1,5 @@
 -- The letters that are left fall; the name keeps its length.
-use Rattle.std.proofs.Common.{◌-◌, ◌≤◌, length, ◌≡◌, ℕ, ◌+◌, ◌*◌, ◌<◌}
+use Rattle.std.proofs.Common.{◌-◌, length, ◌≡◌}
 use Rattle.tablefile.proofs.replacing.choose.Given as goal
 
 abbrev pub invariant-loop-i : goal.invariant-loop-i
