@@ -188,7 +188,10 @@ fn tell_length(rt: &impl Complaints, len: usize, path: &[u8]) {
     if !right {
         complain(rt, b"pietrunel: ");
         complain(rt, path);
-        complain(rt, b": its length is not that of 1 to 256 records of 128 bytes\n");
+        complain(
+            rt,
+            b": its length is not that of 1 to 256 records of 128 bytes\n",
+        );
     }
 }
 

@@ -10,12 +10,7 @@ use terminal::{find, print};
 const RECORD_SIZE: usize = 128;
 
 // Sends a command to the first record of a table alone.
-fn send_to_first(
-    rt: &impl Print,
-    table: &mut [u8],
-    time: u64,
-    line: &[u8],
-) -> io::Result<Answer> {
+fn send_to_first(rt: &impl Print, table: &mut [u8], time: u64, line: &[u8]) -> io::Result<Answer> {
     if table.len() < RECORD_SIZE {
         return send(rt, table, time, line);
     }

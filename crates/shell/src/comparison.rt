@@ -60,11 +60,7 @@ fn read_first(
 }
 
 // Reads the file whose name is the argument at a place.
-fn read_at(
-    rt: &(impl Env + Files + Complaints),
-    place: usize,
-    table: &mut [u8; SPACE],
-) -> usize {
+fn read_at(rt: &(impl Env + Files + Complaints), place: usize, table: &mut [u8; SPACE]) -> usize {
     let mut path = [0u8; 4096];
     match path_at(rt, place, &mut path) {
         Ok(n) => read_first(rt, &path, n, table),

@@ -51,7 +51,10 @@ fn run_by(rt: &impl Host, line: Line, count: usize, path: &[u8], caller: Caller)
         return list(rt, kept, path, caller, false);
     }
     if !kept {
-        return refuse(rt, b"this program needs the keeper that the script pietrunel runs");
+        return refuse(
+            rt,
+            b"this program needs the keeper that the script pietrunel runs",
+        );
     }
     if line.words < count {
         return send_words(rt, path, caller, line.words, count);
@@ -107,7 +110,10 @@ fn is_mixed(line: Line, count: usize) -> bool {
 // Whether options go together; where they do not, says so.
 fn agree(rt: &impl Complaints, line: Line, count: usize) -> bool {
     if is_mixed(line, count) {
-        refuse(rt, b"--init, --list, --check and --diff stand alone, without a command");
+        refuse(
+            rt,
+            b"--init, --list, --check and --diff stand alone, without a command",
+        );
         return false;
     }
     let owner = line.owner != 0;
@@ -118,7 +124,10 @@ fn agree(rt: &impl Complaints, line: Line, count: usize) -> bool {
     }
     let apart = (line.init != 0) | (line.diff != 0);
     if apart & (owner | installer) {
-        refuse(rt, b"--owner and --installer are for commands, --list and --check");
+        refuse(
+            rt,
+            b"--owner and --installer are for commands, --list and --check",
+        );
         return false;
     }
     true

@@ -18,25 +18,13 @@ use terminal::Complaints;
 const SIZE: usize = 128;
 
 // Lists the caller's part of a table, or counts its records; gives back what became of writing the last line.
-fn list_part(
-    rt: &impl Print,
-    table: &[u8],
-    view: View,
-    time: u64,
-    shown: bool,
-) -> io::Result<()> {
+fn list_part(rt: &impl Print, table: &[u8], view: View, time: u64, shown: bool) -> io::Result<()> {
     let slots = slots_of(view, table.len() / SIZE);
     list_records(rt, table, slots.first, slots.end, time, shown)
 }
 
 // Tells what breaks the rules of a table, in either part, where a call is refused for it.
-fn tell_if_bad(
-    rt: &impl Complaints,
-    number: u32,
-    table: &[u8],
-    view: View,
-    path: &[u8],
-) {
+fn tell_if_bad(rt: &impl Complaints, number: u32, table: &[u8], view: View, path: &[u8]) {
     if number != 0 {
         tell_faults(rt, table, meets_at(view), path);
     }

@@ -47,9 +47,15 @@ pub fn refuse_output(rt: &impl Complaints, error: io::Error) -> u64 {
 // Says that a reply could not be written, why, and whether the table did change.
 pub fn tell_unwritten(rt: &impl Complaints, error: io::Error, changed: bool) {
     if changed {
-        complain(rt, b"pietrunel: the table did change, but the reply cannot be written: ");
+        complain(
+            rt,
+            b"pietrunel: the table did change, but the reply cannot be written: ",
+        );
     } else {
-        complain(rt, b"pietrunel: nothing was changed, and the reply cannot be written: ");
+        complain(
+            rt,
+            b"pietrunel: nothing was changed, and the reply cannot be written: ",
+        );
     }
     complain_error(rt, b"standard output", error);
 }
@@ -69,7 +75,10 @@ pub fn refuse_word(rt: &(impl Env + Complaints), place: usize, why: &[u8]) -> u6
 
 // Says that bytes are no command.
 pub fn refuse_malformed(rt: &impl Complaints) -> u64 {
-    refuse(rt, b"not a command: it has 1 to 16 words in at most 512 bytes of RESP2")
+    refuse(
+        rt,
+        b"not a command: it has 1 to 16 words in at most 512 bytes of RESP2",
+    )
 }
 
 // Says what a refusal that has no reply stands for.
