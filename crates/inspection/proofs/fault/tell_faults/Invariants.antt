@@ -1,5 +1,5 @@
 -- The slots that are left fall, and those that are read lie in the table.
-use Rattle.std.proofs.Common.{◌-◌, ◌≤◌, length, ◌≡◌, ℕ, ◌+◌, ◌*◌, ◌<◌, ◌/◌}
+use Rattle.std.proofs.Common.{◌-◌, length, ◌≡◌, ◌/◌}
 use Rattle.inspection.proofs.fault.tell_faults.Given as goal
 
 abbrev pub invariant-loop-i : goal.invariant-loop-i

@@ -1,5 +1,5 @@
 -- The slots that are left fall, those that are read lie in the table, and as many are counted at most as were passed.
-use Rattle.std.proofs.Common.{◌-◌, ◌≤◌, length, ◌≡◌, ℕ, ◌+◌, ◌*◌, ◌<◌, ◌/◌}
+use Rattle.std.proofs.Common.{◌-◌, ◌≤◌, length, ◌+◌, ◌/◌}
 use Rattle.inspection.proofs.lines.list_records.Given as goal
 
 abbrev pub invariant-loop-i : goal.invariant-loop-i
