@@ -59,7 +59,7 @@ returns : tie.Need-returns invariant-loop decreases-loop
 returns c =
     let l = c in
     let s = l.args.s.now in
-    let ended : length s ≤ l.loop.i = omega arith in
+    let ended : length s ≤ l.loop-i.i = omega arith in
     record {
       place = omega (arith, length-hex s);
       bytes = sym (l.loop-i.invariant.3 ∙ rw (drop_of_length-le s ended) (written-nil l.loop-i.place l.loop-i.out));
