@@ -68,7 +68,7 @@ returns-3 c =
     let s = c in
     let t = s.args.table.now in
     let e = c in
-    let all : c.before.loop.above ≡ 0 = omega arith in
+    let all : c.before.loop-above.above ≡ 0 = omega arith in
     sym (read_all form128 t (sym e.has_size.ensures ∙ e.if-not-has_size.false) (subst (ReadFrom form128 t) all c.loop-above.invariant.1))
 
 pub reads_spec : {M : Type 1} → statement M
