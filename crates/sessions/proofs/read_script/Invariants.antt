@@ -1,5 +1,5 @@
 -- What is left of the buffer falls; the buffer keeps its length.
-use Rattle.std.proofs.Common.{◌-◌, ◌≤◌, length, ◌≡◌, ℕ, ◌+◌, ◌*◌, ◌<◌, ◌/◌}
+use Rattle.std.proofs.Common.{◌-◌, ◌≤◌, length, ◌≡◌}
 use Rattle.sessions.proofs.read_script.Given as goal
 
 abbrev pub invariant-loop-done : goal.invariant-loop-done

@@ -1,5 +1,5 @@
 -- At most one word more than the bytes passed.
-use Rattle.std.proofs.Common.{◌-◌, ◌≤◌, length, ◌≡◌, ℕ, ◌+◌, ◌*◌, ◌<◌, ◌/◌}
+use Rattle.std.proofs.Common.{◌-◌, ◌≤◌, length, ◌+◌}
 use Rattle.sessions.proofs.compose.count_words.Given as goal
 
 abbrev pub invariant-loop-i : goal.invariant-loop-i

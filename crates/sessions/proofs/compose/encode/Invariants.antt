@@ -1,5 +1,5 @@
 -- A word ends where it starts or later, and within the line, so what is left of the line falls.
-use Rattle.std.proofs.Common.{◌-◌, ◌≤◌, length, ◌≡◌, ℕ, ◌+◌, ◌*◌, ◌<◌, ◌/◌}
+use Rattle.std.proofs.Common.{◌-◌, ◌≤◌, length, ◌+◌}
 use Rattle.sessions.proofs.compose.encode.Given as goal
 
 abbrev pub invariant-loop-from : goal.invariant-loop-from

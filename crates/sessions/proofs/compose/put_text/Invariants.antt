@@ -1,5 +1,5 @@
 -- What is left of the text falls; `put` tests the room.
-use Rattle.std.proofs.Common.{◌-◌, ◌≤◌, length, ◌≡◌, ℕ, ◌+◌, ◌*◌, ◌<◌, ◌/◌}
+use Rattle.std.proofs.Common.{◌-◌, ◌≤◌, length}
 use Rattle.sessions.proofs.compose.put_text.Given as goal
 
 abbrev pub invariant-loop-i : goal.invariant-loop-i

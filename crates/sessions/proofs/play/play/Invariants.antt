@@ -1,5 +1,5 @@
 -- A line ends where it starts or later, and within the script, so what is left of the script falls.
-use Rattle.std.proofs.Common.{◌-◌, ◌≤◌, length, ◌≡◌, ℕ, ◌+◌, ◌*◌, ◌<◌, ◌/◌}
+use Rattle.std.proofs.Common.{◌-◌, ◌≤◌, length, ◌+◌}
 use Rattle.sessions.proofs.play.play.Given as goal
 
 abbrev pub invariant-loop-from : goal.invariant-loop-from
