@@ -58,7 +58,7 @@ loop-again c =
     let l = c in
     let s = l in
     let t = s.args.table.now in
-    let above : l.before.loop.above ≡ l.before.loop.above - 1 + 1 = omega arith in (
+    let above : l.loop-above.above ≡ l.loop-above.above - 1 + 1 = omega arith in (
       omega (arith, l.loop-above.invariant.0),
       read_more form128 t (l.loop-above.above - 1) (sym (told c.before) ∙ c.if-not-passes.false) (subst (ReadFrom form128 t) above l.loop-above.invariant.1),
     )
