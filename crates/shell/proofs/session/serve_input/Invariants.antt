@@ -1,5 +1,4 @@
 -- Nothing has to hold from turn to turn; the measure is the number of turns that are left.
-use Rattle.std.proofs.Common.{◌-◌, ◌≤◌, length, ◌≡◌, ℕ, ◌+◌, ◌*◌, ◌<◌, ◌/◌}
 use Rattle.shell.proofs.session.serve_input.Given as goal
 
 abbrev pub decreases-loop-turns : goal.decreases-loop-turns
