@@ -2,7 +2,6 @@
 use Rattle.std.specs.Prelude.{ℕ, ◌*◌, ◌≤◌, ◌≡◌, true, List, map, length, take, ℤ}
 use Rattle.std.proofs.Math.Option.{Option, none, some}
 use Rattle.model.specs.Bytes.{padded}
-use Rattle.model.specs.Table.{Record}
 use Rattle.model.specs.Search.{live_record}
 use Rattle.model.specs.Resp.{scalars_bytes}
 use Rattle.model.specs.Field.{is_int_type, Field, end_bit}

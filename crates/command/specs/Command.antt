@@ -6,25 +6,17 @@ use Rattle.model.specs.Command as model
 use Rattle.model.specs.Command.{under}
 use Rattle.model.specs.Parse.{word_at, parse_subcommands}
 use Rattle.command.specs.declared.Presence.{Presence}
-use Rattle.command.specs.declared.Presence.TheVariants as Presence
 use Rattle.command.specs.declared.Change.{Change}
-use Rattle.command.specs.declared.Change.TheVariants as Change
 use Rattle.command.specs.declared.Expire.{Expire}
-use Rattle.command.specs.declared.Expire.TheVariants as Expire
 use Rattle.command.specs.declared.Bound.{Bound}
-use Rattle.command.specs.declared.Bound.TheVariants as Bound
 use Rattle.command.specs.declared.End.{End}
-use Rattle.command.specs.declared.End.TheVariants as End
 use Rattle.command.specs.declared.Terms.{Terms}
 use Rattle.command.specs.declared.Set.{Set}
 use Rattle.command.specs.declared.Increment.{Increment}
 use Rattle.command.specs.declared.Join.{Join}
 use Rattle.command.specs.declared.Action.{Action}
-use Rattle.command.specs.declared.Action.TheVariants as Action
 use Rattle.command.specs.declared.Task.{Task}
-use Rattle.command.specs.declared.Task.TheVariants as Task
 use Rattle.command.specs.declared.Parsed.{Parsed}
-use Rattle.command.specs.declared.Parsed.TheVariants as Parsed
 
 abbrev pub model_presence : Presence → model.Presence
 model_presence Presence.Always = model.always

@@ -4,7 +4,6 @@ use Rattle.std.proofs.Math.Option.{Option, none, some}
 use Rattle.model.specs.Command as model
 use Rattle.model.specs.Command.{Kind, kind_no}
 use Rattle.command.specs.declared.Number.{Number}
-use Rattle.command.specs.declared.Number.TheVariants as Number
 use Rattle.command.specs.declared.Rule.{Rule}
 
 -- what number the last fixed word is

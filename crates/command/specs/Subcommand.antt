@@ -6,9 +6,7 @@ use Rattle.model.specs.Bitfield as bitfield
 use Rattle.command.specs.declared.subcommand.IntType.{IntType}
 use Rattle.command.specs.declared.subcommand.Field.{Field}
 use Rattle.command.specs.declared.subcommand.Mode.{Mode}
-use Rattle.command.specs.declared.subcommand.Mode.TheVariants as Mode
 use Rattle.command.specs.declared.subcommand.Operation.{Operation}
-use Rattle.command.specs.declared.subcommand.Operation.TheVariants as Operation
 use Rattle.command.specs.declared.subcommand.Sub.{Sub}
 use Rattle.command.specs.declared.subcommand.Subs.{Subs}
 

@@ -18,7 +18,6 @@ use Rattle.model.specs.Command.{Increment}
 use Rattle.model.specs.Execute.{not_below, not_above, floored, bounded, sum, total}
 use Rattle.command.specs.Command.{model_bound}
 use Rattle.command.specs.declared.Bound.{Bound}
-use Rattle.command.specs.declared.Bound.TheVariants as Bound
 use Rattle.number.proofs.Integers.{lt-true, back, back_is}
 use Rattle.number.specs.Answer.{signed_from, sum_from}
 use Rattle.number.specs.declared.Signed.TheVariants as Signed

@@ -15,7 +15,6 @@ use Rattle.integrity.specs.Check.{faultless}
 use Rattle.integrity.proofs.Verdict.{good-slots, not_good}
 use Rattle.entry.specs.declared.Query.{Query}
 use Rattle.entry.specs.declared.Prepared.{Prepared}
-use Rattle.entry.specs.declared.Prepared.TheVariants as Prepared
 use Rattle.entry.specs.Gated.{gate_in, Prepares}
 use Rattle.entry.specs.contracts.Prepared.{the_type}
 

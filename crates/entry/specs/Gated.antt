@@ -16,7 +16,6 @@ use Rattle.entry.specs.declared.Entry.{Entry}
 use Rattle.entry.specs.declared.Entry.TheVariants.{Passed, Refused}
 use Rattle.entry.specs.declared.Ready.{Ready}
 use Rattle.entry.specs.declared.Prepared.{Prepared}
-use Rattle.entry.specs.declared.Prepared.TheVariants as Prepared
 
 -- the number of words, or the number of the refusal
 abbrev pub checked_entry : Entry → Checked ℕ

@@ -11,7 +11,6 @@ use lib.Signed.{lt_z}
 use borrow.Author.Tests.{ltb-true, ltb-false, le-leb, lt-leb, leb-true, leb-false}
 use Rattle.model.specs.Optional.{only}
 use Rattle.model.specs.Checked.{Checked, refuse, ok, check, given, ◌>>=◌, ◌>>◌}
-use Rattle.model.specs.Number.{natural}
 use Rattle.model.specs.Table.{time_limit}
 use Rattle.model.specs.Command.{Expire, at}
 use Rattle.model.specs.Options.{until, expire_in}

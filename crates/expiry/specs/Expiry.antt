@@ -5,7 +5,6 @@ use Rattle.model.specs.Command.{Expire}
 use Rattle.model.specs.Options as model
 use Rattle.command.specs.Command.{model_expire}
 use Rattle.expiry.specs.declared.Lifetime.{Lifetime}
-use Rattle.expiry.specs.declared.Lifetime.TheVariants as Lifetime
 use Rattle.expiry.specs.declared.ReadExpire.{ReadExpire}
 
 module _ {A : Type 0} where

@@ -12,7 +12,6 @@ use Rattle.model.specs.Table.{Record}
 use Rattle.model.specs.Command.{if_absent, raise, Terms}
 use Rattle.model.specs.Execute.{Effect, one_higher, version_after, allowed, agrees, or_nil, admit}
 use Rattle.live.specs.declared.Admission.{Admission}
-use Rattle.live.specs.declared.Admission.TheVariants as Admission
 use Rattle.live.specs.After.{admitted}
 
 pub rises : (v : ℕ) → suc v < version_limit → ok (v + 1) ≡ one_higher v

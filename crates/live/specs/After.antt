@@ -5,11 +5,8 @@ use Rattle.model.specs.Checked.{Checked, refuse, ok}
 use Rattle.model.specs.Resp.{one, nil}
 use Rattle.model.specs.Execute.{Effect, answer}
 use Rattle.live.specs.declared.Flags.{Flags}
-use Rattle.live.specs.declared.Flags.TheVariants as Flags
 use Rattle.live.specs.declared.Version.{Version}
-use Rattle.live.specs.declared.Version.TheVariants as Version
 use Rattle.live.specs.declared.Admission.{Admission}
-use Rattle.live.specs.declared.Admission.TheVariants as Admission
 
 -- the flags given; none where those stored are kept
 abbrev pub model_flags : Flags → Option ℕ

@@ -1,14 +1,13 @@
 -- What is known of subcommands that parsed: their types are known, the number of a SET fits, and each has three words or more.
-use mathlib.Core.Path.{◌≡◌, refl, sym, ap, ◌∙◌}
+use mathlib.Core.Path.{◌≡◌, sym, ap, ◌∙◌}
 use mathlib.Core.Bool.{true}
-use mathlib.Core.List.{List, [], ◌∷◌, ◌++◌}
-use mathlib.Core.Option.{Option, none, some, map}
+use mathlib.Core.List.{List, [], ◌∷◌}
+use mathlib.Core.Option.{some}
 use Prim.Native.Nat.{ℕ, zero, suc, ◌+◌, ◌*◌, ◌≤◌}
 use native.Mathlib.Omega.{arith}
 use lib.ListN.{length, get_or, length-append}
 use Rattle.model.specs.Bytes.{uppers}
 use Rattle.model.specs.Optional.{only}
-use Rattle.model.specs.Checked.{refuse, ok, given, ◌>>=◌}
 use Rattle.model.specs.Number.{read_signed}
 use Rattle.model.specs.Field.{IntType, is_int_type, fits, Field}
 use Rattle.model.specs.Overflow.{Mode, wrap}

@@ -5,9 +5,7 @@ use Rattle.std.specs.Int.Signed.{non_neg}
 use Rattle.model.specs.Optional.{only}
 use Rattle.model.specs.Number.{is_signed}
 use Rattle.number.specs.declared.Signed.{Signed}
-use Rattle.number.specs.declared.Signed.TheVariants as Signed
 use Rattle.number.specs.declared.Natural.{Natural}
-use Rattle.number.specs.declared.Natural.TheVariants as Natural
 use Rattle.number.specs.declared.Sum.{Sum}
 use Rattle.number.specs.declared.Sum.TheVariants.{Fits, Under, Over}
 

@@ -10,7 +10,6 @@ use Rattle.command.specs.declared.Opt.TheVariants as Opt
 use Rattle.options.specs.declared.Given.{Given}
 use Rattle.options.specs.declared.Options.{Options}
 use Rattle.options.specs.declared.Taken.{Taken}
-use Rattle.options.specs.declared.Taken.TheVariants as Taken
 use Rattle.options.specs.declared.Collected.{Collected}
 
 -- an option and the word of its number

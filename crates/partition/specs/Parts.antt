@@ -10,9 +10,7 @@ use Rattle.partition.specs.declared.Party.{Party}
 use Rattle.partition.specs.declared.Party.TheVariants.{Whole, Owner, Installer}
 use Rattle.partition.specs.declared.View.{View}
 use Rattle.partition.specs.declared.Cut.{Cut}
-use Rattle.partition.specs.declared.Cut.TheVariants as Cut
 use Rattle.partition.specs.declared.Part.{Part}
-use Rattle.partition.specs.declared.Part.TheVariants as Part
 
 -- the model's view
 abbrev pub view_by : Party → (boundary : ℕ) → model.View

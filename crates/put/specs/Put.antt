@@ -9,7 +9,6 @@ use Rattle.model.specs.Execute.{flags_after, expiry_after, put}
 use Rattle.record.specs.declared.Attributes.{Attributes}
 use Rattle.table.specs.Slots.{with_slot}
 use Rattle.table.specs.declared.Found.{Found}
-use Rattle.table.specs.declared.Found.TheVariants as Found
 use Rattle.live.specs.declared.Lookup.{Lookup}
 use Rattle.live.specs.declared.Target.{Target}
 use Rattle.live.specs.Under.{stored_in, shape_of, lookup_in, slot_in}

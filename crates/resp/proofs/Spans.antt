@@ -24,9 +24,7 @@ use Rattle.resp.specs.Words.{word_of, word_from, has_words}
 use Rattle.resp.specs.Spans.{words_of, bytes_of, span_at, span_in, Splits, place_of, Known, Begins, Notes, noted, WordsRead, Split, checked_count}
 use Rattle.resp.specs.declared.Span.{Span}
 use Rattle.resp.specs.declared.Word.{Word}
-use Rattle.resp.specs.declared.Word.TheVariants as Word
 use Rattle.resp.specs.declared.Count.{Count}
-use Rattle.resp.specs.declared.Count.TheVariants as Count
 use Rattle.resp.proofs.Lines.{LineAt}
 use Rattle.resp.proofs.Words.{word-at, words-next, words-malformed, words-end}
 

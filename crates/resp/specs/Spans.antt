@@ -10,9 +10,7 @@ use Rattle.model.specs.CurrentValue.{word_start}
 use Rattle.resp.specs.Words.{has_words}
 use Rattle.resp.specs.declared.Span.{Span}
 use Rattle.resp.specs.declared.Word.{Word}
-use Rattle.resp.specs.declared.Word.TheVariants as Word
 use Rattle.resp.specs.declared.Count.{Count}
-use Rattle.resp.specs.declared.Count.TheVariants as Count
 
 -- the words of a command; none where the bytes are no command
 unfoldable pub words_of : List ℕ → List (List ℕ)

@@ -5,9 +5,7 @@ use Rattle.model.specs.Optional.{is_some}
 use Rattle.model.specs.Number.{is_digit}
 use Rattle.model.specs.Resp.{command_limit, Taken, skip_line_end, read_line, read_bulk, read_bulks}
 use Rattle.resp.specs.declared.Line.{Line}
-use Rattle.resp.specs.declared.Line.TheVariants as Line
 use Rattle.resp.specs.declared.Word.{Word}
-use Rattle.resp.specs.declared.Word.TheVariants as Word
 
 -- ---- lines
 

@@ -4,7 +4,7 @@ use mathlib.Core.Path.{◌≡◌, refl, sym, ap, ◌∙◌, subst}
 use mathlib.Core.List.{List}
 use Prim.Native.Nat.{ℕ, ◌≤◌}
 use native.Mathlib.Omega.{arith}
-use lib.ListN.{length, drop}
+use lib.ListN.{drop}
 use Rattle.model.specs.Table.{Form}
 use Rattle.model.specs.Partition.{View, whole, shared_by, bytes_in, with_bytes}
 use Rattle.model.specs.Call.{Outcome, untouched, with_rest, call_in, call}

@@ -6,7 +6,7 @@ use mathlib.Core.Bool.{true}
 use mathlib.Core.List.{List, [], ◌∷◌, map}
 use mathlib.Core.Option.{some}
 use native.Mathlib.Omega.{arith}
-use lib.ListN.{length, get_or, replicate}
+use lib.ListN.{get_or, replicate}
 use Rattle.model.specs.Bytes.{text}
 use Rattle.model.specs.Table.{form128, Slot, empty, used, use_at, version_at, table_bytes, read_table, distinct}
 use Rattle.model.specs.Resp.{encode}

@@ -15,12 +15,10 @@ use Rattle.model.specs.Bitfield as bitfield
 use Rattle.model.specs.Subcommands.{Part, parts_in, subs_in, subcommands_in}
 use Rattle.command.specs.Subcommand.{model_mode, model_sub, places, subs_from, model_subs}
 use Rattle.command.specs.declared.subcommand.Mode.{Mode}
-use Rattle.command.specs.declared.subcommand.Mode.TheVariants as Mode
 use Rattle.command.specs.declared.subcommand.Sub.{Sub}
 use Rattle.command.specs.declared.subcommand.Subs.{Subs}
 use Rattle.subcommands.specs.Steps.{outcome, resume, stepped, Takes}
 use Rattle.subcommands.specs.declared.Step.{Step}
-use Rattle.subcommands.specs.declared.Step.TheVariants as Step
 
 -- ---- four places
 

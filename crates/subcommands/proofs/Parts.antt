@@ -24,7 +24,6 @@ use Rattle.command.specs.declared.subcommand.Operation.TheVariants.{Get, Set, In
 use Rattle.subcommands.specs.Words.{sub_by}
 use Rattle.subcommands.specs.Steps.{name_of, TakesSub, TakesMode, outcome, resume, Takes}
 use Rattle.subcommands.specs.declared.Step.{Step}
-use Rattle.subcommands.specs.declared.Step.TheVariants as Step
 use Rattle.subcommands.proofs.Acting.{two-words}
 
 -- ---- the words of one part

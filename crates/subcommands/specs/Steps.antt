@@ -13,9 +13,7 @@ use Rattle.command.specs.declared.subcommand.Operation.{Operation}
 use Rattle.command.specs.declared.subcommand.Operation.TheVariants.{Get, Set, Incrby}
 use Rattle.subcommands.specs.Words.{sub_by}
 use Rattle.subcommands.specs.declared.Collected.{Collected}
-use Rattle.subcommands.specs.declared.Collected.TheVariants as Collected
 use Rattle.subcommands.specs.declared.Step.{Step}
-use Rattle.subcommands.specs.declared.Step.TheVariants as Step
 
 -- the subcommands, or document 01's number of the refusal
 abbrev pub checked_collected : Collected → Checked (List bitfield.Sub)

@@ -13,13 +13,9 @@ use Rattle.command.specs.declared.subcommand.Operation.{Operation}
 use Rattle.command.specs.declared.subcommand.Operation.TheVariants.{Get, Set, Incrby}
 use Rattle.resp.specs.Words.{digit_at}
 use Rattle.subcommands.specs.declared.word.TypeRead.{TypeRead}
-use Rattle.subcommands.specs.declared.word.TypeRead.TheVariants as TypeRead
 use Rattle.subcommands.specs.declared.word.OffsetRead.{OffsetRead}
-use Rattle.subcommands.specs.declared.word.OffsetRead.TheVariants as OffsetRead
 use Rattle.subcommands.specs.declared.word.FieldRead.{FieldRead}
-use Rattle.subcommands.specs.declared.word.FieldRead.TheVariants as FieldRead
 use Rattle.subcommands.specs.declared.word.SubRead.{SubRead}
-use Rattle.subcommands.specs.declared.word.SubRead.TheVariants as SubRead
 
 -- a width of at most two digits, else 0
 abbrev pub width_from : Option ℕ → ℕ

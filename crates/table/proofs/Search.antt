@@ -1,6 +1,6 @@
 -- The lowest slot that passes a test, as a loop from slot 0 upward finds it: while no slot passed the test, the answer of the whole table is
 -- the answer of the slots that are left, counted from where they begin.
-use Prim.Native.Nat.{ℕ, zero, suc, ◌+◌, ◌-◌, ◌≤◌, ◌<◌}
+use Prim.Native.Nat.{ℕ, zero, suc, ◌+◌, ◌≤◌, ◌<◌}
 use native.Mathlib.Nat.{zero-add, add-zero}
 use native.Mathlib.Numerals.{add-one}
 use native.Mathlib.Omega.{arith}

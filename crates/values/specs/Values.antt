@@ -5,22 +5,15 @@ use Rattle.model.specs.Checked.{Checked, refuse, ok}
 use Rattle.model.specs.Command.{Change}
 use Rattle.model.specs.Options as model
 use Rattle.number.specs.declared.Signed.{Signed}
-use Rattle.number.specs.declared.Signed.TheVariants as Signed
 use Rattle.number.specs.declared.Natural.{Natural}
-use Rattle.number.specs.declared.Natural.TheVariants as Natural
-use Rattle.command.specs.Command.{model_change, model_expire, model_bound, model_terms}
+use Rattle.command.specs.Command.{model_change, model_bound, model_terms}
 pub use Rattle.expiry.specs.Expiry.{checked_by, model_lifetime, checked_expire}
 use Rattle.values.specs.declared.ReadLifetime.{ReadLifetime}
-use Rattle.values.specs.declared.ReadLifetime.TheVariants as ReadLifetime
 use Rattle.values.specs.declared.ReadChange.{ReadChange}
-use Rattle.values.specs.declared.ReadChange.TheVariants as ReadChange
 use Rattle.values.specs.declared.ReadFlags.{ReadFlags}
-use Rattle.values.specs.declared.ReadFlags.TheVariants as ReadFlags
 use Rattle.values.specs.declared.ReadBound.{ReadBound}
-use Rattle.values.specs.declared.ReadBound.TheVariants as ReadBound
 use Rattle.values.specs.declared.Numbers.{Numbers}
 use Rattle.values.specs.declared.ReadNumbers.{ReadNumbers}
-use Rattle.values.specs.declared.ReadNumbers.TheVariants as ReadNumbers
 use Rattle.values.specs.declared.Said.{Said}
 use Rattle.values.specs.declared.ReadSaid.{ReadSaid}
 

@@ -4,7 +4,6 @@ use mathlib.Core.Path.{◌≡◌, sym, ap, ◌∙◌}
 use mathlib.Core.Bool.{Bool, ◌&&◌}
 use Prim.Native.Nat.{ℕ, ◌+◌, ◌-◌}
 use native.Mathlib.Nat.{sub-zero}
-use borrow.Author.Tests.{not-true, not-false}
 use Rattle.model.specs.Bitfield.{ends_within, all_end_within}
 use Rattle.command.specs.Subcommand.{model_sub, subs_from, model_subs}
 use Rattle.command.specs.declared.subcommand.Sub.{Sub}

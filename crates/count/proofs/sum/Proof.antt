@@ -7,7 +7,6 @@ use denote.Enum.Declared.{tag_of}
 use types.Run.{OneOf}
 use lib.IntN.{ℤ, ◌+ℤ◌}
 use borrow.Author.Rules.{rules}
-use borrow.Author.Tests.{not-true, not-false}
 use Rattle.number.proofs.Integers.{back_is}
 use Rattle.number.specs.contracts.Sum.{the_type}
 use Rattle.number.specs.Answer.{sum_from}

@@ -4,7 +4,6 @@ use native.Mathlib.Omega.{arith}
 use mathlib.Core.Path.{◌≡◌, sym, ◌∙◌}
 use mathlib.Core.Bool.{true}
 use borrow.Author.Rules.{rules}
-use borrow.Author.Tests.{not-true, not-false}
 use Rattle.model.specs.Table.{form128, time_limit}
 use Rattle.integrity.specs.Check.{faultless}
 use Rattle.entry.proofs.Tests.{faulty, late, short, malformed, passed}

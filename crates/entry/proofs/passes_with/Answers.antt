@@ -1,7 +1,7 @@
 -- The time is above the limit, so the number tells of the table alone.
 use Rattle.std.proofs.Common.{subst, arith}
 use Rattle.entry.specs.Gated.{Prepares}
-use Rattle.entry.proofs.Late.{late-told, late-refused}
+use Rattle.entry.proofs.Late.{late-told}
 use Rattle.entry.proofs.passes_with.Goals as goal
 
 pub returns : goal.returns

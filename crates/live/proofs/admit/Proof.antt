@@ -2,7 +2,6 @@
 use borrow.Author.Rules.{rules}
 use mathlib.Core.Path.{◌≡◌, refl, sym, ◌∙◌}
 use mathlib.Core.Bool.{Bool, true, false}
-use borrow.Author.Tests.{not-true, not-false}
 use Rattle.model.specs.Checked.{Checked}
 use Rattle.model.specs.Execute.{Effect, admit}
 use Rattle.command.specs.Command.{model_terms}

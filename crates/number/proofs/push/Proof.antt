@@ -13,7 +13,7 @@ use mir.Syntax.{w64}
 use mir.Val.{SFits, to_z}
 use mir.Facts.{to_z_pos}
 use borrow.Author.Rules.{rules}
-use borrow.Author.Tests.{leb-true, leb-false, not-true, not-false}
+use borrow.Author.Tests.{leb-true, leb-false}
 use Rattle.model.specs.Number.{read_digits}
 use Rattle.number.specs.Answer.{negative_from}
 use Rattle.number.specs.declared.Signed.{Signed}

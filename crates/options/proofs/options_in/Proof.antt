@@ -13,7 +13,6 @@ use Rattle.command.specs.Rules.{model_rule}
 use Rattle.command.proofs.Bits.{kind-small}
 use Rattle.options.specs.Options.{blank, group_of, Takes}
 use Rattle.options.specs.declared.Taken.{Taken}
-use Rattle.options.specs.declared.Taken.TheVariants as Taken
 use Rattle.options.proofs.Taking.{Reached, reached-next, reads-wrong, reads_held, reads_all, reads-few}
 use Rattle.options.proofs.options_in.Statement.{statement}
 use Rattle.options.proofs.options_in.Tie as tie

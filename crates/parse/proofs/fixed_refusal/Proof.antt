@@ -5,7 +5,6 @@ use mathlib.Core.Path.{◌≡◌, refl, sym, ◌∙◌}
 use mathlib.Core.Bool.{Bool}
 use mathlib.Core.List.{List}
 use lib.ListN.{length}
-use borrow.Author.Tests.{not-true, not-false}
 use Rattle.model.specs.Parse.{word_at, count_ok, sizes_ok}
 use Rattle.record.specs.Forms.{form_of}
 use Rattle.resp.specs.Spans.{words_of}

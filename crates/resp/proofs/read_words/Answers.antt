@@ -1,5 +1,5 @@
 -- Each turn notes the word at the reader's place, or finds that none stands there.
-use Rattle.std.proofs.Common.{rules, ◌≡◌, refl, ℕ, List, ap, ◌∙◌}
+use Rattle.std.proofs.Common.{refl, ℕ, List, ap, ◌∙◌}
 use Rattle.resp.specs.Words.{word_from}
 use Rattle.resp.proofs.Spans.{filled-first, filled-last, may-note, noted-word, noted-none}
 use Rattle.resp.proofs.read_words.Goals as goal

@@ -1,7 +1,7 @@
 -- `slice::bits_from` meets its contract. The loop keeps that the bytes from n on are zero just if `bits` is and those from the larger of n and i
 -- on are, and that the last 16 bytes are zero if `bits` is.
 use Prim.Native.Nat.{◌+◌, ◌-◌, ◌%◌, ◌≤◌, max}
-use mathlib.Core.Path.{◌≡◌, refl, sym, ap, ◌∙◌}
+use mathlib.Core.Path.{◌≡◌, sym, ap, ◌∙◌}
 use mathlib.Core.Bool.{true}
 use lib.Dec.{eqb}
 use lib.ListN.{drop, length-drop}

@@ -1,6 +1,5 @@
 -- `status::status_between` meets its contract: its tests are the definition's.
-use mathlib.Core.Bool.{◌&&◌}
-use borrow.Author.Tests.{eq-eqb, ne_eqb, not-true, not-false}
+use borrow.Author.Tests.{eq-eqb, ne_eqb}
 use Rattle.status.proofs.status_between.Statement.{statement}
 use Rattle.status.proofs.status_between.Tie as tie
 

@@ -11,7 +11,6 @@ use Rattle.resp.proofs.Spans.{word-limit}
 use Rattle.command.specs.Subcommand.{model_mode}
 use Rattle.subcommands.specs.Steps.{Takes}
 use Rattle.subcommands.specs.declared.Step.{Step}
-use Rattle.subcommands.specs.declared.Step.TheVariants as Step
 use Rattle.subcommands.proofs.Collecting.{Reached, reached-first, malformed, reached-mode, reached-wrong, free, reached-sub, all-wrong, all_read}
 use Rattle.subcommands.proofs.subcommands_in.Statement.{statement}
 use Rattle.subcommands.proofs.subcommands_in.Tie as tie

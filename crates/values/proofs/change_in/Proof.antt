@@ -3,7 +3,7 @@ use borrow.Author.Rules.{rules}
 use Prim.Native.Nat.{ℕ}
 use mathlib.Core.Path.{◌≡◌, sym, ap, ◌∙◌}
 use mathlib.Core.List.{List}
-use Rattle.model.specs.Checked.{Checked, ok, given, ◌>>=◌}
+use Rattle.model.specs.Checked.{Checked, ok, ◌>>=◌}
 use Rattle.model.specs.Number.{read_version}
 use Rattle.model.specs.Command.{Change}
 use Rattle.model.specs.Options.{change_by, change_in}

@@ -28,4 +28,4 @@ finish_spec =
     subst (λ (r : Stored). Finishes c.args.reply.now c.error.new.reply r (λ (n : ℕ). array xs) c.error.result) (sym c.in-Refused.is) (finishes-refused c.error.ensures))
     (λ c. search rules)
     (λ c xs hl ht.
-    subst (λ (r : Stored). Finishes c.args.reply.now e.elements.new.reply r (λ (n : ℕ). array xs) e.elements.result) (sym k.in-Version.is) (finishes-stored (λ (n : ℕ). array xs) (e.elements.ensures xs hl ht))))
+    subst (λ (r : Stored). Finishes c.args.reply.now c.elements.new.reply r (λ (n : ℕ). array xs) c.elements.result) (sym c.in-Version.is) (finishes-stored (λ (n : ℕ). array xs) (c.elements.ensures xs hl ht))))

@@ -1,7 +1,7 @@
 -- `int::number_of` meets its contract: from the half on, what is left above it is added to the least number; below, the bits are the number.
 use Rattle.std.proofs.Common.{◌≡◌, ℕ, ◌+◌, ◌-◌, ◌*◌, ◌%◌, ◌^◌, ◌<◌, ◌≤◌, pos, ◌+ℤ◌, sym, ◌∙◌, ⊎_elim, arith, w64, SFits, to_z, rules}
 use mir.Facts.{to_z_pos}
-use Rattle.model.specs.Field.{IntType, modulus, negatives, least, meaning}
+use Rattle.model.specs.Field.{IntType, modulus, negatives, meaning}
 use Rattle.model.proofs.Ranges.{Ends, ends, meaning-pos, meaning-signed}
 use Rattle.command.specs.Subcommand.{model_int}
 use Rattle.number.proofs.Integers.{back, back_is}

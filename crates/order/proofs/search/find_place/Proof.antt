@@ -29,11 +29,10 @@ told : (c : tie.After-compare invariant-loop decreases-loop)
     → let a = c.args in
     Stated a.key.now (key_at_place (form_of a.form) a.table.now a.list.now (c.loop-low.low + (c.loop-low.high - c.loop-low.low) / 2)) c.compare.result
 told c =
-    let k = c in
-    let a = k.args in
-    let m = key_at_place (form_of a.form) a.table.now a.list.now (l.loop-low.low + (l.loop-low.high - l.loop-low.low) / 2) in
+    let a = c.args in
+    let m = key_at_place (form_of a.form) a.table.now a.list.now (c.loop-low.low + (c.loop-low.high - c.loop-low.low) / 2) in
     let e : c.compare.result ≡ compared a.key.now m =
-    c.compare.ensures ∙ ap (compared a.key.now) (k.key.ensures ∙ ap (λ (x : Record). x.key) r.record_at-r.ensures.is) in
+    c.compare.ensures ∙ ap (compared a.key.now) (c.key.ensures ∙ ap (λ (x : Record). x.key) c.record_at-r.ensures.is) in
     subst (Stated a.key.now m) (sym e) (compared-stated a.key.now m)
 
 -- the place in the middle is one of the first n, and of the list

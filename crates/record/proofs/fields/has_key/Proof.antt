@@ -1,7 +1,6 @@
 -- `record::has_key` meets its contract. Byte 0 may refuse; else the comparison of the two keys decides.
 use mathlib.Core.Path.{◌≡◌, sym, ap, ◌∙◌}
 use mathlib.Core.Bool.{true}
-use borrow.Author.Tests.{not-true, not-false}
 use Rattle.model.specs.Bytes.{same}
 use Rattle.record.specs.Record.{is_used}
 use Rattle.record.proofs.Reading.{used-in-use}

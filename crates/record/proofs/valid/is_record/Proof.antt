@@ -1,7 +1,6 @@
 -- `record::is_record` meets its contract. Bytes 0 to 23 alone may refuse; else the lengths are in range and the zeros after key and value decide.
 use mathlib.Core.Path.{◌≡◌, sym, ◌∙◌}
 use mathlib.Core.Bool.{◌&&◌}
-use borrow.Author.Tests.{not-true, not-false}
 use Rattle.model.specs.Table.{is_record}
 use Rattle.slice.proofs.Written.{length_part}
 use Rattle.slice.proofs.Zeros.{or-is-zero}

@@ -11,7 +11,7 @@ use Rattle.record.specs.Forms.{form_of}
 use Rattle.record.specs.Attributes.{record_with}
 use Rattle.record.proofs.Forms.{lawful-form}
 use Rattle.record.proofs.Pieces.{rest_size, head_of, length-head}
-use Rattle.record.proofs.Changing.{rest-filled, record-written}
+use Rattle.record.proofs.Changing.{record-written}
 use native.Mathlib.Omega.{arith}
 use borrow.Author.Rules.{rules}
 use Rattle.record.proofs.writes.write.Statement.{statement}

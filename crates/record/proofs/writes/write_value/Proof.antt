@@ -1,5 +1,5 @@
 -- `record::write_value` meets its contract: in the arm of each form, the part from the value on comes back filled.
-use Prim.Native.Nat.{ℕ, ◌-◌, ◌≤◌}
+use Prim.Native.Nat.{◌-◌, ◌≤◌}
 use native.Mathlib.Omega.{arith}
 use mathlib.Core.Path.{◌≡◌, sym, ap, ◌∙◌, subst}
 use lib.ListN.{length, length-take, length-drop}

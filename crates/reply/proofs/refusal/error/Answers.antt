@@ -1,5 +1,5 @@
 -- The text of the number is the part between two starts, and the reply's one piece.
-use Rattle.std.proofs.Common.{◌≡◌, ℕ, ◌-◌, ◌<◌, List, refl, subst, arith}
+use Rattle.std.proofs.Common.{ℕ, ◌-◌, ◌<◌, List, refl, subst, arith}
 use Rattle.model.specs.Resp.{scalar_bytes, error}
 use Rattle.model.specs.Call.{error_reply}
 use Rattle.slice.specs.Wrote.{Wrote}

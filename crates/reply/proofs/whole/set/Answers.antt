@@ -1,5 +1,5 @@
 -- By the flag, the reply is a number or its one piece is OK.
-use Rattle.std.proofs.Common.{◌≡◌, List, ℕ, false}
+use Rattle.std.proofs.Common.{false}
 use Rattle.model.specs.Execute.{set_reply}
 use Rattle.reply.proofs.Writing.{Begun, begin, room, next, replied}
 use Rattle.reply.proofs.whole.set.Goals as goal

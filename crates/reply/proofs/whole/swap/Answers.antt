@@ -1,6 +1,6 @@
 -- Each part has room behind those before it, and together they are the reply.
 use Rattle.model.specs.Execute.{swap_reply}
-use Rattle.reply.proofs.Writing.{Begun, begin, next, room, replied}
+use Rattle.reply.proofs.Writing.{begin, next, room, replied}
 use Rattle.reply.proofs.whole.swap.Goals as goal
 
 pub put_array-ok_at-requires : goal.put_array-ok_at-requires

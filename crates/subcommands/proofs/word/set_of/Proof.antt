@@ -5,7 +5,6 @@ use mathlib.Core.Bool.{Bool, cond}
 use mathlib.Core.List.{[], ◌∷◌}
 use mathlib.Core.Option.{none, some}
 use lib.IntN.{ℤ}
-use borrow.Author.Tests.{not-true, not-false}
 use Rattle.model.specs.Checked.{ok, given}
 use Rattle.model.specs.Optional.{◌>>=◌}
 use Rattle.model.specs.Field.{fits}

@@ -3,7 +3,6 @@ use borrow.Author.Rules.{rules}
 use native.Mathlib.Omega.{arith}
 use mathlib.Core.Path.{sym, ap}
 use mathlib.Core.Logic.{⊎_elim}
-use borrow.Author.Tests.{not-true, not-false}
 use Rattle.model.specs.Checked.{given}
 use Rattle.subcommands.proofs.Types.{most-is, most-range, no-width, too_wide, a-type}
 use Rattle.subcommands.proofs.word.type_of.Statement.{statement}
