@@ -1,4 +1,4 @@
-//! Links libpietrunel.a: from PIETRUNEL_LIB_DIR, or from where `rt staticlib pietrunel` leaves it.
+//! Links libpietrunel.a: from PIETRUNEL_LIB_DIR, or from where `rt lib` in crates/pietrunel leaves it.
 
 use std::path::{Path, PathBuf};
 use std::process::ExitCode;
@@ -11,8 +11,8 @@ fn main() -> ExitCode {
     println!("cargo::rerun-if-changed={}", library.display());
     if !library.is_file() {
         println!(
-            "cargo::error={} is not there: run `rt staticlib pietrunel` at the repository's \
-             root, or set PIETRUNEL_LIB_DIR to the library's folder",
+            "cargo::error={} is not there: run `rt lib` in crates/pietrunel, \
+             or set PIETRUNEL_LIB_DIR to the library's folder",
             library.display()
         );
         return ExitCode::FAILURE;
@@ -25,7 +25,7 @@ fn main() -> ExitCode {
 /// The library's folder. A relative PIETRUNEL_LIB_DIR begins where cargo was run.
 fn folder() -> PathBuf {
     match env::var_os("PIETRUNEL_LIB_DIR") {
-        None => PathBuf::from(env!("CARGO_MANIFEST_DIR")).join("../../target/staticlib"),
+        None => PathBuf::from(env!("CARGO_MANIFEST_DIR")).join("../../crates/pietrunel/out"),
         Some(folder) if Path::new(&folder).is_absolute() => folder.into(),
         Some(folder) => {
             println!("cargo::rerun-if-env-changed=PWD");

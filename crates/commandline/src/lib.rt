@@ -6,7 +6,7 @@ mod numbers;
 mod switch;
 mod words;
 
-pub use line::{Line, read_line};
+pub use line::{Line, count_arguments, read_line};
 pub use numbers::{number_at, path_at, records_at};
 pub use words::compose;
 

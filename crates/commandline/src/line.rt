@@ -3,6 +3,7 @@ ghost use Rattle.std.specs.Prelude.{◌≡◌, ◌≤◌};
 ghost use Rattle.commandline.specs.Lines.{noted, is_last};
 
 use crate::switch::{Switch, switch_of, takes_value};
+use std::env::{Env, FillError};
 
 // The place of each option's value, or of the option where it takes none; 0 where it is not given. Of two, the last counts. The words
 // of the command begin at `words`, which is the count of the arguments where there are none.
@@ -21,14 +22,33 @@ pub struct Line {
     pub words: usize,
 }
 
-// The option at a place. An argument of more than 4,096 bytes is no option.
-fn switch_at(at: usize) -> Switch {
-    let mut word = io::buffer();
-    let n = os::arg(at, &mut word);
-    if os::errno() != 0 {
-        return Switch::Word;
+// Whether there is an argument at a place.
+fn is_there(rt: &impl Env, at: usize) -> bool {
+    let mut word = [0u8; 1];
+    match rt.arg(at, &mut word) {
+        Ok(_) => true,
+        Err(FillError::TooLong) => true,
+        Err(FillError::NotPresent) => false,
     }
-    switch_of(&word[..n])
+}
+
+// How many arguments there are; the program's name is the first.
+pub fn count_arguments(rt: &impl Env) -> usize {
+    for at in 0..usize::MAX {
+        if !is_there(rt, at) {
+            return at;
+        }
+    }
+    usize::MAX
+}
+
+// The option at a place. An argument of more than 4,096 bytes is no option.
+fn switch_at(rt: &impl Env, at: usize) -> Switch {
+    let mut word = [0u8; 4096];
+    match rt.arg(at, &mut word) {
+        Ok(n) => switch_of(&word[..n]),
+        Err(_) => Switch::Word,
+    }
 }
 
 // A line with the option at a place added; its value is the argument after it.
@@ -102,11 +122,11 @@ fn after(switch: Switch, value: usize, count: usize) -> usize
 }
 
 // The options among the first `count` arguments, up to the first word.
-pub fn read_line(count: usize) -> Line {
+pub fn read_line(rt: &impl Env, count: usize) -> Line {
     let mut line = bare(count);
     let mut at = 1;
     while at < count {
-        let switch = switch_at(at);
+        let switch = switch_at(rt, at);
         let value = at + 1;
         line = noted(line, switch, at, value);
         if is_last(switch) {

@@ -1,10 +1,10 @@
 // The values of options.
-ghost use Rattle.std.specs.Prelude.{◌≡◌};
-ghost use Rattle.io.specs.Counts.{IsPrefixLen};
+ghost use Rattle.std.specs.Prelude.{◌≡◌, ◌≤◌, length, IfOk};
 ghost use Rattle.number.specs.Answer.{natural_from};
 ghost use Rattle.commandline.specs.Switches.{read_records};
 
 use number::Natural;
+use std::env::{Env, FillError};
 
 // The table's file where none is named.
 const NAME: [u8; 15] = *b"pietrunel.table";
@@ -25,34 +25,34 @@ fn read_records(s: &[u8]) -> Natural
 }
 
 // The number below 2^63 that the argument at a place means; place 0 means none.
-pub fn number_at(place: usize) -> Natural {
-    let mut word = [0u8; 32];
-    let n = os::arg(place, &mut word);
-    if os::errno() != 0 {
-        return Natural::Bad;
-    }
+pub fn number_at(rt: &impl Env, place: usize) -> Natural {
     if place == 0 {
         return Natural::Bad;
     }
-    number::read_version(&word[..n])
+    let mut word = [0u8; 32];
+    match rt.arg(place, &mut word) {
+        Ok(n) => number::read_version(&word[..n]),
+        Err(_) => Natural::Bad,
+    }
 }
 
 // The number of records that the argument at a place means.
-pub fn records_at(place: usize) -> Natural {
+pub fn records_at(rt: &impl Env, place: usize) -> Natural {
     let mut word = [0u8; 32];
-    let n = os::arg(place, &mut word);
-    if os::errno() != 0 {
-        return Natural::Bad;
+    match rt.arg(place, &mut word) {
+        Ok(n) => read_records(&word[..n]),
+        Err(_) => Natural::Bad,
     }
-    read_records(&word[..n])
 }
 
-// Puts the path at a place at the start of a buffer, or that of the table where the place is 0, and gives back its length; 0 where there is
-// none or it is too long.
-pub fn path_at(place: usize, out: &mut [u8; 4096]) -> usize {
+// Puts the path at a place at the start of a buffer, or that of the table where the place is 0, and gives back its length; or says that there is
+// none or that it is too long.
+pub fn path_at(rt: &impl Env, place: usize, out: &mut [u8; 4096]) -> Result<usize, FillError>
+    ensures { IfOk result (λ n. n ≤ length out.new) }
+{
     if place == 0 {
         slice::copy(out, 0, &NAME);
-        return 15;
+        return Ok(15);
     }
-    os::arg(place, out)
+    rt.arg(place, out)
 }

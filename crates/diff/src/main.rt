@@ -4,9 +4,16 @@
 
 use inspection::print_difference;
 use tablefile::{SPACE, fetch, tell};
+use terminal::Complaints;
 
 // Prints what differs between the first n bytes of one buffer and the first m of another.
-fn compare_first(before: &[u8; SPACE], n: usize, after: &[u8; SPACE], m: usize) {
+fn compare_first(
+    rt: &(impl Print + Complaints),
+    before: &[u8; SPACE],
+    n: usize,
+    after: &[u8; SPACE],
+    m: usize,
+) {
     let first: &[u8] = before;
     let second: &[u8] = after;
     if first.len() < n {
@@ -15,16 +22,16 @@ fn compare_first(before: &[u8; SPACE], n: usize, after: &[u8; SPACE], m: usize) 
     if second.len() < m {
         return;
     }
-    let shown = print_difference(&first[0..n], &second[0..m]);
-    if !shown.written {
-        tell(b"standard output");
+    let shown = print_difference(rt, &first[0..n], &second[0..m]);
+    if let Err(error) = shown.written {
+        tell(rt, b"standard output", error);
     }
 }
 
-fn main() {
+fn main(rt: HostRuntime) {
     let mut before = [0u8; SPACE];
-    let n = fetch(b"before.table", &mut before);
+    let n = fetch(&rt, b"before.table", &mut before);
     let mut after = [0u8; SPACE];
-    let m = fetch(b"after.table", &mut after);
-    compare_first(&before, n, &after, m);
+    let m = fetch(&rt, b"after.table", &mut after);
+    compare_first(&rt, &before, n, &after, m);
 }

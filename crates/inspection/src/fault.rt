@@ -8,7 +8,7 @@ use record::{
     EXPIRY_AT, Form, KEY_AT, KEY_LENGTH_AT, MARK_AT, TIME_LIMIT, USE_AT, USED, VALUE_AT,
     VALUE_LENGTH_AT, VERSION_AT, VERSION_LIMIT,
 };
-use terminal::{complain, print_decimal};
+use terminal::{Complaints, complain, complain_decimal};
 
 // The bytes of a record.
 const SIZE: usize = 128;
@@ -84,27 +84,27 @@ pub fn fault_of(r: &[u8]) -> u32
 }
 
 // Says which rule is broken, by its number.
-fn tell_rule(rule: u32) {
+fn tell_rule(rt: &impl Complaints, rule: u32) {
     match rule {
-        1 => complain(b"an empty record has a byte that is not 0\n"),
-        2 => complain(b"byte 0 is neither 0 nor 1\n"),
-        3 => complain(b"the key's length is not 1 to 24\n"),
-        4 => complain(b"the value's length is above 64\n"),
-        5 => complain(b"byte 3 is not 0\n"),
-        6 => complain(b"the version is 2^63 or more\n"),
-        7 => complain(b"the expiry is above 2^62\n"),
-        8 => complain(b"a byte after the key is not 0\n"),
-        _ => complain(b"a byte after the value is not 0\n"),
+        1 => complain(rt, b"an empty record has a byte that is not 0\n"),
+        2 => complain(rt, b"byte 0 is neither 0 nor 1\n"),
+        3 => complain(rt, b"the key's length is not 1 to 24\n"),
+        4 => complain(rt, b"the value's length is above 64\n"),
+        5 => complain(rt, b"byte 3 is not 0\n"),
+        6 => complain(rt, b"the version is 2^63 or more\n"),
+        7 => complain(rt, b"the expiry is above 2^62\n"),
+        8 => complain(rt, b"a byte after the key is not 0\n"),
+        _ => complain(rt, b"a byte after the value is not 0\n"),
     }
 }
 
 // Begins the line on a slot.
-fn tell_slot(path: &[u8], slot: usize) {
-    complain(b"pietrunel: ");
-    complain(path);
-    complain(b": slot ");
-    print_decimal(libc::STDERR_FILENO, slot as u64);
-    complain(b": ");
+fn tell_slot(rt: &impl Complaints, path: &[u8], slot: usize) {
+    complain(rt, b"pietrunel: ");
+    complain(rt, path);
+    complain(rt, b": slot ");
+    complain_decimal(rt, slot as u64);
+    complain(rt, b": ");
 }
 
 // Whether two slots hold records in use with equal keys.
@@ -154,13 +154,20 @@ fn twin_of(table: &[u8], r: &[u8], start: usize, slot: usize) -> usize
 }
 
 // Tells what is wrong with a slot, if anything is. A key is compared with those of the slot's part alone.
-fn tell_fault(table: &[u8], r: &[u8], slot: usize, boundary: usize, path: &[u8])
+fn tell_fault(
+    rt: &impl Complaints,
+    table: &[u8],
+    r: &[u8],
+    slot: usize,
+    boundary: usize,
+    path: &[u8],
+)
     requires { length r.now ≡ 128 }
 {
     let rule = fault_of(r);
     if 0 < rule {
-        tell_slot(path, slot);
-        tell_rule(rule);
+        tell_slot(rt, path, slot);
+        tell_rule(rt, rule);
         return;
     }
     if r[USE_AT] != USED {
@@ -168,31 +175,34 @@ fn tell_fault(table: &[u8], r: &[u8], slot: usize, boundary: usize, path: &[u8])
     }
     let twin = twin_of(table, r, part_start(slot, boundary), slot);
     if twin < slot {
-        tell_slot(path, slot);
-        complain(b"the key is that of slot ");
-        print_decimal(libc::STDERR_FILENO, twin as u64);
-        complain(b" too\n");
+        tell_slot(rt, path, slot);
+        complain(rt, b"the key is that of slot ");
+        complain_decimal(rt, twin as u64);
+        complain(rt, b" too\n");
     }
 }
 
 // Tells what is wrong with the length of a table, if anything is.
-fn tell_length(len: usize, path: &[u8]) {
+fn tell_length(rt: &impl Complaints, len: usize, path: &[u8]) {
     let right = (len % SIZE == 0) & ((SIZE <= len) & (len <= MOST * SIZE));
     if !right {
-        complain(b"pietrunel: ");
-        complain(path);
-        complain(b": its length is not that of 1 to 256 records of 128 bytes\n");
+        complain(rt, b"pietrunel: ");
+        complain(rt, path);
+        complain(
+            rt,
+            b": its length is not that of 1 to 256 records of 128 bytes\n",
+        );
     }
 }
 
 // Tells all that is wrong with a table whose two parts meet at a boundary, counted in records; with 0 it is one part.
-pub fn tell_faults(table: &[u8], boundary: usize, path: &[u8]) {
-    tell_length(table.len(), path);
+pub fn tell_faults(rt: &impl Complaints, table: &[u8], boundary: usize, path: &[u8]) {
+    tell_length(rt, table.len(), path);
     let n = table.len() / SIZE;
     let mut i = 0;
     while i < n {
         let from = i * SIZE;
-        tell_fault(table, &table[from..from + SIZE], i, boundary, path);
+        tell_fault(rt, table, &table[from..from + SIZE], i, boundary, path);
         i += 1;
     }
 }

@@ -4,6 +4,7 @@ ghost use Rattle.record.specs.Record.{InUse};
 
 use crate::calendar::add_date;
 use crate::fault::fault_of;
+use std::io;
 use terminal::{PAGE, add, add_natural, add_quoted, print_page};
 
 // The bytes of a record.
@@ -37,13 +38,13 @@ fn add_pair(page: &mut [u8], r: &[u8], slot: usize) -> usize
     add_quoted(page, equal, record::value(r))
 }
 
-// Prints a record in use on a line, in one write.
-fn print_record(r: &[u8], slot: usize, time: u64)
+// Prints a record in use on a line, in one write. Where it cannot be written, neither can the last line, of which this is told.
+fn print_record(rt: &impl Print, r: &[u8], slot: usize, time: u64)
     requires { InUse r.now }
 {
     let mut page = [0u8; PAGE];
     let n = add_record(&mut page, r, slot, time);
-    print_page(&page, n);
+    let _ = print_page(rt, &page, n);
 }
 
 // Adds the line of a record in use.
@@ -64,15 +65,15 @@ fn add_count(page: &mut [u8], used: usize, n: usize) -> usize {
     add(page, all, b" records in use\n")
 }
 
-// Prints how many records are in use, and gives back whether that was written.
-fn print_count(used: usize, n: usize) -> bool {
+// Prints how many records are in use.
+fn print_count(rt: &impl Print, used: usize, n: usize) -> io::Result<()> {
     let mut page = [0u8; PAGE];
     let end = add_count(&mut page, used, n);
-    print_page(&page, end)
+    print_page(rt, &page, end)
 }
 
 // Prints the record of a slot where it holds one in use and is asked for; gives back 1 where it holds one, else 0.
-fn list_slot(r: &[u8], slot: usize, time: u64, shown: bool) -> usize
+fn list_slot(rt: &impl Print, r: &[u8], slot: usize, time: u64, shown: bool) -> usize
     requires { length r.now ≡ 128 }
     ensures { result ≤ 1 }
 {
@@ -83,22 +84,29 @@ fn list_slot(r: &[u8], slot: usize, time: u64, shown: bool) -> usize
         return 0;
     }
     if shown {
-        print_record(r, slot, time);
+        print_record(rt, r, slot, time);
     }
     1
 }
 
 // Prints the records in use of the slots from `first` up to, not including, `end` where they are asked for, and how many of those slots hold one;
-// gives back whether the last line was written.
-pub fn list_records(table: &[u8], first: usize, end: usize, time: u64, shown: bool) -> bool
+// gives back what became of writing the last line.
+pub fn list_records(
+    rt: &impl Print,
+    table: &[u8],
+    first: usize,
+    end: usize,
+    time: u64,
+    shown: bool,
+) -> io::Result<()>
     requires { (first ≤ end) × (end ≤ length table.now / 128) }
 {
     let mut used: usize = 0;
     let mut i = first;
     while i < end {
         let from = i * SIZE;
-        used += list_slot(&table[from..from + SIZE], i, time, shown);
+        used += list_slot(rt, &table[from..from + SIZE], i, time, shown);
         i += 1;
     }
-    print_count(used, end - first)
+    print_count(rt, used, end - first)
 }

@@ -1,5 +1,6 @@
 // The headings of a script. Each is printed; one that begins a document's part or empties the table does so, and one that names a time sets it.
 use number::Natural;
+use std::io;
 use terminal::print;
 
 // Whether commands are calls of document 01 or 02, on a table of one record, and the time of a call.
@@ -27,28 +28,33 @@ fn time_in(line: &[u8]) -> Natural {
 }
 
 // The setting after a heading that names a time.
-fn timed(setting: Setting, line: &[u8]) -> Setting {
+fn timed(rt: &impl Print, setting: Setting, line: &[u8]) -> io::Result<Setting> {
     let Natural::Value(time) = time_in(line) else {
-        print(b"no time\n");
-        return setting;
+        print(rt, b"no time\n")?;
+        return Ok(setting);
     };
-    Setting {
+    Ok(Setting {
         rows: setting.rows,
         time,
-    }
+    })
 }
 
 // Prints a heading, does what it says, and gives back the setting after it.
-pub fn follow(table: &mut [u8; 256], setting: Setting, line: &[u8]) -> Setting {
-    print(line);
-    print(b"\n");
+pub fn follow(
+    rt: &impl Print,
+    table: &mut [u8; 256],
+    setting: Setting,
+    line: &[u8],
+) -> io::Result<Setting> {
+    print(rt, line)?;
+    print(rt, b"\n")?;
     if begins(line, b"-- time ") {
-        return timed(setting, line);
+        return timed(rt, setting, line);
     }
     let rows = begins(line, b"-- Document 01:") | begins(line, b"-- Document 02:");
     if begins(line, b"-- Document") | begins(line, b"-- FLUSHALL") {
         *table = [0u8; 256];
-        return Setting { rows, time: 1000 };
+        return Ok(Setting { rows, time: 1000 });
     }
-    setting
+    Ok(setting)
 }

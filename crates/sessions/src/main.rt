@@ -11,10 +11,25 @@ mod outcome;
 mod play;
 mod session;
 
-use libc::STDIN_FILENO;
+use std::io;
+use std::io::Read;
 
-fn main() {
-    let mut script = io::buffer();
-    let n = io::read_full(STDIN_FILENO, &mut script);
-    play::play_first(&script, n);
+// Reads standard input to its end, or until the buffer is full, and gives back how many bytes came.
+fn read_script(rt: &impl Input, script: &mut [u8]) -> io::Result<usize> {
+    let mut input = rt.reader();
+    let mut done = 0;
+    while done < script.len() {
+        let got = input.read(&mut script[done..])?;
+        if got == 0 {
+            return Ok(done);
+        }
+        done += got;
+    }
+    Ok(done)
+}
+
+fn main(rt: HostRuntime) -> io::Result<()> {
+    let mut script = [0u8; 4096];
+    let n = read_script(&rt, &mut script)?;
+    play::play_first(&rt, &script, n)
 }

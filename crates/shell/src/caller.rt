@@ -7,6 +7,8 @@ use crate::notice::{Clock, refuse};
 use commandline::{Line, number_at};
 use number::Natural;
 use partition::{Party, View};
+use std::env::Env;
+use terminal::Complaints;
 
 // The part of the table that a call means, and its time.
 #[derive(Clone, Copy)]
@@ -55,22 +57,22 @@ fn view_at(line: Line, boundary: usize) -> View
 }
 
 // Says that a boundary is no number.
-fn refuse_boundary(line: Line) {
+fn refuse_boundary(rt: &impl Complaints, line: Line) {
     if line.owner != 0 {
-        refuse(b"--owner needs a number of records");
+        refuse(rt, b"--owner needs a number of records");
         return;
     }
-    refuse(b"--installer needs a number of records");
+    refuse(rt, b"--installer needs a number of records");
 }
 
 // The view of a command line's calls.
-pub fn view_of(line: Line) -> Viewed {
+pub fn view_of(rt: &(impl Env + Complaints), line: Line) -> Viewed {
     let place = boundary_place(line);
     if place == 0 {
         return Viewed::Known(view_at(line, 0));
     }
-    let Natural::Value(n) = number_at(place) else {
-        refuse_boundary(line);
+    let Natural::Value(n) = number_at(rt, place) else {
+        refuse_boundary(rt, line);
         return Viewed::Refused;
     };
     Viewed::Known(view_at(line, n as usize))

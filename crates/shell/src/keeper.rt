@@ -3,7 +3,7 @@
 use crate::notice::refuse;
 use number::Natural;
 use tablefile::Rights;
-use terminal::{find, print_decimal};
+use terminal::{Complaints, decimal, find};
 
 // The descriptor on which the keeper is told.
 const TOLD: i32 = 3;
@@ -66,16 +66,16 @@ fn grant_of(answer: &[u8]) -> Asked {
 }
 
 // The grant of an answer of which n bytes came.
-fn grant_first(buffer: &[u8; ANSWER], n: usize) -> Asked {
+fn grant_first(rt: &impl Complaints, buffer: &[u8; ANSWER], n: usize) -> Asked {
     if n < ANSWER {
-        refuse(b"the keeper of the table's lock has ended");
+        refuse(rt, b"the keeper of the table's lock has ended");
         return Asked::Refused;
     }
     grant_of(buffer)
 }
 
 // Waits for the table's lock. Where there is no keeper, nothing is locked, and the time is 0.
-pub fn ask(kept: bool) -> Asked {
+pub fn ask(rt: &impl Complaints, kept: bool) -> Asked {
     if !kept {
         let rights = Rights {
             mode: 0,
@@ -87,7 +87,7 @@ pub fn ask(kept: bool) -> Asked {
     io::write_all(TOLD, b"lock\n");
     let mut answer = [0u8; ANSWER];
     let n = io::read_full(ANSWERS, &mut answer);
-    grant_first(&answer, n)
+    grant_first(rt, &answer, n)
 }
 
 // Lets go of the table's lock, and waits until it is free, so that whoever has seen the reply finds it so. Gives back whether it is: where the
@@ -104,6 +104,8 @@ pub fn let_go(kept: bool) -> bool {
 // Tells the exit status.
 pub fn tell_status(status: u64) {
     io::write_all(TOLD, b"status ");
-    print_decimal(TOLD, status);
+    let mut digits = [0u8; 20];
+    let k = decimal(status, &mut digits);
+    io::write_all(TOLD, &digits[..k]);
     io::write_all(TOLD, b"\n");
 }

@@ -6,6 +6,7 @@ mod caller;
 mod comparison;
 mod creation;
 mod exchange;
+mod host;
 mod job;
 mod keeper;
 mod listing;
@@ -13,12 +14,12 @@ mod notice;
 mod serve;
 mod session;
 
-use commandline::read_line;
+use commandline::{count_arguments, read_line};
 
-fn main() {
-    let count = os::arg_count();
-    let line = read_line(count);
-    let status = job::run(line, count);
+fn main(rt: HostRuntime) {
+    let count = count_arguments(&rt);
+    let line = read_line(&rt, count);
+    let status = job::run(&rt, line, count);
     if line.keeper != 0 {
         keeper::tell_status(status);
     }

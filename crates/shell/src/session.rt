@@ -1,12 +1,14 @@
 // The commands on standard input, one after the other: each is applied and answered as soon as it is whole. The lock is asked for when a command
 // is whole and not before, so that a client that sends nothing holds up nobody.
 use crate::caller::Caller;
+use crate::host::Host;
 use crate::notice::refuse_malformed;
 use crate::serve::serve;
 use assembler::{Assembled, SIZE, assemble, command};
-use libc::STDIN_FILENO;
 use status::{DONE, REFUSED, is_open_after, status_after};
+use std::io::Read;
 use tablefile::tell;
+use terminal::Complaints;
 
 // The most bytes of a read.
 const PIECE: usize = 4096;
@@ -64,20 +66,28 @@ fn count_in(at: Session, n: usize, status: u64) -> Next {
 }
 
 // Takes a piece up to the end of its first command, and answers that.
-fn take(path: &[u8], caller: Caller, at: Session, bytes: &mut [u8; SIZE], piece: &[u8]) -> Next {
+fn take(
+    rt: &impl Host,
+    path: &[u8],
+    caller: Caller,
+    at: Session,
+    bytes: &mut [u8; SIZE],
+    piece: &[u8],
+) -> Next {
     let held = at.held;
     match assemble(bytes, held, piece) {
         Assembled::More => Next::On(hold(at, piece.len())),
         Assembled::Whole(n) => {
-            let status = serve(path, caller, command(bytes, held, piece, n), true);
+            let status = serve(rt, path, caller, command(bytes, held, piece, n), true);
             count_in(at, n, status)
         }
-        Assembled::Refused(_) => Next::End(refuse_malformed()),
+        Assembled::Refused(_) => Next::End(refuse_malformed(rt)),
     }
 }
 
 // The same for what is left of the last read.
 fn take_rest(
+    rt: &impl Host,
     path: &[u8],
     caller: Caller,
     at: Session,
@@ -93,37 +103,37 @@ fn take_rest(
     if end < from {
         return Next::End(REFUSED);
     }
-    take(path, caller, at, bytes, &came[from..end])
+    take(rt, path, caller, at, bytes, &came[from..end])
 }
 
 // At the end of the input: a command that is not whole is malformed.
-fn finish(at: Session) -> Next {
+fn finish(rt: &impl Complaints, at: Session) -> Next {
     if at.held != 0 {
-        return Next::End(refuse_malformed());
+        return Next::End(refuse_malformed(rt));
     }
     Next::End(at.status)
 }
 
 // Reads what has come, and waits where nothing has: so no command waits for a later one.
-fn read_more(at: Session, buffer: &mut [u8; PIECE]) -> Next {
-    let got = libc::read(STDIN_FILENO, buffer);
-    if got < 0 {
-        tell(b"standard input");
-        return Next::End(REFUSED);
+fn read_more(rt: &(impl Input + Complaints), at: Session, buffer: &mut [u8; PIECE]) -> Next {
+    match rt.reader().read(buffer) {
+        Ok(0) => finish(rt, at),
+        Ok(n) => Next::On(Session {
+            from: 0,
+            end: n,
+            held: at.held,
+            status: at.status,
+        }),
+        Err(error) => {
+            tell(rt, b"standard input", error);
+            Next::End(REFUSED)
+        }
     }
-    if got == 0 {
-        return finish(at);
-    }
-    Next::On(Session {
-        from: 0,
-        end: io::count(got, buffer),
-        held: at.held,
-        status: at.status,
-    })
 }
 
 // Answers one command, or reads where no byte is left.
 fn turn(
+    rt: &impl Host,
     path: &[u8],
     caller: Caller,
     at: Session,
@@ -131,14 +141,14 @@ fn turn(
     buffer: &mut [u8; PIECE],
 ) -> Next {
     if at.from < at.end {
-        return take_rest(path, caller, at, bytes, buffer);
+        return take_rest(rt, path, caller, at, bytes, buffer);
     }
-    read_more(at, buffer)
+    read_more(rt, at, buffer)
 }
 
 // Applies the commands on standard input to a table's file, and gives back the exit status. Nothing says that the input ends, and a proved loop
 // has to: so the turns are counted down from a number that no run uses up.
-pub fn serve_input(path: &[u8], caller: Caller) -> u64 {
+pub fn serve_input(rt: &impl Host, path: &[u8], caller: Caller) -> u64 {
     let mut bytes = [0u8; SIZE];
     let mut buffer = [0u8; PIECE];
     let mut at = Session {
@@ -149,7 +159,7 @@ pub fn serve_input(path: &[u8], caller: Caller) -> u64 {
     };
     let mut turns = u64::MAX;
     while 0 < turns {
-        match turn(path, caller, at, &mut bytes, &mut buffer) {
+        match turn(rt, path, caller, at, &mut bytes, &mut buffer) {
             Next::On(next) => at = next,
             Next::End(status) => return status,
         }

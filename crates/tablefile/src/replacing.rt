@@ -1,123 +1,205 @@
 // Replacing a table: its new file is made, written, synced and renamed over it.
+ghost use Rattle.std.specs.Prelude.{◌≡◌, ◌≤◌, ◌<◌, length};
+
 use crate::Rights;
 use crate::name::{folder, put_new_name};
-use crate::reading::tell;
-use terminal::complain;
+use crate::reading::{named, open_read, tell};
+use std::fs::{File, OpenOptions, Permissions};
+use std::io::{ErrorKind, Write};
+use std::os::unix::fs::{OpenOptionsExt, PermissionsExt, fchown};
+use std::random::RandomSource;
+use std::rt::Files;
+use std::{fs, io};
+use terminal::{Complaints, complain, complain_error};
 
 // The bytes of the new file's name in its folder.
 const NEW_SIZE: usize = 21;
 
+// The bytes at its end that are chosen so that no file is called so yet.
+const CHOSEN: usize = 6;
+
+// What they are chosen from.
+const LETTERS: [u8; 62] = *b"abcdefghijklmnopqrstuvwxyzABCDEFGHIJKLMNOPQRSTUVWXYZ0123456789";
+
+// How often a name is chosen, where the ones before were taken.
+const TRIES: usize = 1000;
+
 // Whether a file may be written or is missing; where it may not, this is told.
-fn is_writable(path: &[u8]) -> bool {
-    let fd = os::open_update(path);
-    if fd >= 0 {
-        libc::close(fd);
-        return true;
+fn is_writable(rt: &(impl Files + Complaints), path: &[u8]) -> bool {
+    match open_update(rt, path) {
+        Ok(_) => true,
+        Err(error) if error.kind() == ErrorKind::NotFound => true,
+        Err(error) => {
+            tell(rt, path, error);
+            false
+        }
     }
-    if os::errno() == libc::ENOENT {
-        return true;
-    }
-    tell(path);
-    false
 }
 
-// Makes the new file, whose name's pattern is the first n bytes of a buffer; its name takes the pattern's place. Gives back its descriptor,
-// or a number below 0.
-fn make(name: &mut [u8], n: usize) -> i32 {
-    if name.len() < n {
-        return -1;
-    }
-    os::create_temp(&mut name[0..n])
+// Opens a file to be read and written.
+fn open_update<R: Files>(rt: &R, path: &[u8]) -> io::Result<R::File> {
+    OpenOptions::new()
+        .read(true)
+        .write(true)
+        .open(rt, named(path)?)
 }
 
-// Makes the new file in a folder, with its name at the start of a buffer. Gives back its descriptor, or a number below 0.
-fn begin(folder: &[u8], name: &mut [u8]) -> i32 {
-    if name.len() < NEW_SIZE {
-        return -1;
+// The letter that a byte stands for.
+fn letter(b: u8) -> u8 {
+    LETTERS[b as usize % LETTERS.len()]
+}
+
+// Puts letters at random at the end of a name.
+fn choose(rt: &impl RandomSource, name: &mut [u8]) -> io::Result<()>
+    ensures { length name.new ≡ length name.old }
+{
+    let mut bytes = [0u8; CHOSEN];
+    rt.fill_bytes(&mut bytes)?;
+    let n = name.len();
+    let mut i = 0;
+    while i < CHOSEN && i < n {
+        name[n - 1 - i] = letter(bytes[i]);
+        i += 1;
     }
-    if name.len() - NEW_SIZE < folder.len() {
-        return -1;
+    Ok(())
+}
+
+// Makes a file that is not there yet, for its owner alone.
+fn create<R: Files>(rt: &R, name: &[u8]) -> io::Result<R::File> {
+    OpenOptions::new()
+        .read(true)
+        .write(true)
+        .create_new(true)
+        .mode(0o600)
+        .open(rt, named(name)?)
+}
+
+// Makes the new file, whose name is the buffer but for the letters at its end, which are put in place.
+fn make<R: Files + RandomSource>(rt: &R, name: &mut [u8]) -> io::Result<R::File> {
+    for _ in 0..TRIES {
+        choose(rt, name)?;
+        match create(rt, name) {
+            Err(error) if error.kind() == ErrorKind::AlreadyExists => {}
+            made => return made,
+        }
+    }
+    Err(io::Error::from(ErrorKind::AlreadyExists))
+}
+
+// Makes the new file in a folder, with its name at the start of a buffer.
+fn begin<R: Files + RandomSource>(rt: &R, folder: &[u8], name: &mut [u8]) -> io::Result<R::File> {
+    if name.len() < NEW_SIZE || name.len() - NEW_SIZE < folder.len() {
+        return Err(io::Error::from(ErrorKind::InvalidFilename));
     }
     let n = put_new_name(folder, name);
-    make(name, n)
+    make(rt, &mut name[0..n])
 }
 
 // Says on standard error that a file's owner and mode cannot be kept, and why.
-fn tell_rights(path: &[u8]) {
-    complain(b"pietrunel: ");
-    complain(path);
-    complain(b": ");
-    os::fail(b"its owner and mode cannot be kept");
+fn tell_rights(rt: &impl Complaints, path: &[u8], error: io::Error) {
+    complain(rt, b"pietrunel: ");
+    complain(rt, path);
+    complain(rt, b": ");
+    complain_error(rt, b"its owner and mode cannot be kept", error);
 }
 
-// Sets the owner, group and mode of a file; gives back whether they are set.
-fn set_rights(fd: i32, rights: Rights) -> bool {
-    if libc::fchown(fd, rights.owner, rights.group) != 0 {
-        return false;
-    }
-    libc::fchmod(fd, rights.mode) == 0
+// Sets the owner, group and mode of a file.
+fn set_rights(file: &File, rights: Rights) -> io::Result<()> {
+    fchown(file, Some(rights.owner), Some(rights.group))?;
+    file.set_permissions(Permissions::from_mode(rights.mode))
 }
 
-// Writes bytes to a file and waits until its device has them; gives back whether it has.
-fn fill(fd: i32, bytes: &[u8]) -> bool {
-    if !io::write_all(fd, bytes) {
-        return false;
-    }
-    libc::fsync(fd) == 0
+// Writes bytes to a file and waits until its device has them.
+fn fill(file: &mut File, bytes: &[u8]) -> io::Result<()> {
+    file.write_all(bytes)?;
+    file.sync_all()
 }
 
 // Waits until a folder's device knows of a new name in it. A file system that cannot say so is no failure: the table is one of the two.
-fn sync(folder: &[u8]) {
-    let fd = os::open_read(folder);
-    if fd >= 0 {
-        libc::fsync(fd);
-        libc::close(fd);
+fn sync(rt: &impl Files<File = File>, folder: &[u8]) {
+    if let Ok(file) = open_read(rt, folder) {
+        let _ = file.sync_all();
     }
 }
 
 // Waits until the folder of a path knows of it.
-fn sync_folder(path: &[u8]) {
+fn sync_folder(rt: &impl Files<File = File>, path: &[u8]) {
     let n = folder(path);
     if n == 0 {
-        sync(b".");
+        sync(rt, b".");
     } else {
-        sync(&path[0..n]);
+        sync(rt, &path[0..n]);
     }
 }
 
 // Fills the new file of a table; gives back whether it did. Where it did not, the reason is told.
-fn prepare(fd: i32, path: &[u8], rights: Rights, bytes: &[u8]) -> bool {
-    if !set_rights(fd, rights) {
-        tell_rights(path);
+fn prepare(
+    rt: &impl Complaints,
+    file: &mut File,
+    path: &[u8],
+    rights: Rights,
+    bytes: &[u8],
+) -> bool {
+    if let Err(error) = set_rights(file, rights) {
+        tell_rights(rt, path, error);
         return false;
     }
-    if !fill(fd, bytes) {
-        tell(path);
+    if let Err(error) = fill(file, bytes) {
+        tell(rt, path, error);
         return false;
     }
     true
 }
 
+// Removes the new file where the table cannot be replaced.
+fn remove(rt: &impl Files, new: &[u8]) {
+    if let Ok(name) = named(new) {
+        let _ = fs::remove_file(rt, name);
+    }
+}
+
+// Renames the new file over the table.
+fn rename(rt: &impl Files, new: &[u8], path: &[u8]) -> io::Result<()> {
+    fs::rename(rt, named(new)?, named(path)?)
+}
+
+// Fills the new file and closes it; gives back whether it did.
+fn prepare_whole(
+    rt: &impl Complaints,
+    mut file: File,
+    path: &[u8],
+    rights: Rights,
+    bytes: &[u8],
+) -> bool {
+    prepare(rt, &mut file, path, rights, bytes)
+}
+
 // Fills the new file, closes it and renames it over the table; gives back whether it did. Where it did not, the new file is removed.
-fn finish(fd: i32, new: &[u8], path: &[u8], rights: Rights, bytes: &[u8]) -> bool {
-    let ready = prepare(fd, path, rights, bytes);
-    libc::close(fd);
-    if !ready {
-        os::unlink(new);
+fn finish<R: Files<File = File> + Complaints>(
+    rt: &R,
+    file: File,
+    new: &[u8],
+    path: &[u8],
+    rights: Rights,
+    bytes: &[u8],
+) -> bool {
+    if !prepare_whole(rt, file, path, rights, bytes) {
+        remove(rt, new);
         return false;
     }
-    if os::rename(new, path) != 0 {
-        tell(path);
-        os::unlink(new);
+    if let Err(error) = rename(rt, new, path) {
+        tell(rt, path, error);
+        remove(rt, new);
         return false;
     }
-    sync_folder(path);
+    sync_folder(rt, path);
     true
 }
 
 // The same with the new file's name in the first n bytes of a buffer.
-fn finish_first(
-    fd: i32,
+fn finish_first<R: Files<File = File> + Complaints>(
+    rt: &R,
+    file: File,
     buffer: &[u8; 4096],
     n: usize,
     path: &[u8],
@@ -126,28 +208,42 @@ fn finish_first(
 ) -> bool {
     let name: &[u8] = buffer;
     if n <= name.len() {
-        return finish(fd, &name[0..n], path, rights, bytes);
+        return finish(rt, file, &name[0..n], path, rights, bytes);
     }
-    libc::close(fd);
     false
 }
 
 // Replaces the table by way of a new file in its folder.
-fn replace_in(folder: &[u8], path: &[u8], rights: Rights, bytes: &[u8]) -> bool {
-    let mut name = io::buffer();
-    let fd = begin(folder, &mut name);
-    if fd < 0 {
-        tell(path);
-        return false;
+fn replace_in<R: Files<File = File> + RandomSource + Complaints>(
+    rt: &R,
+    folder: &[u8],
+    path: &[u8],
+    rights: Rights,
+    bytes: &[u8],
+) -> bool {
+    let mut name = [0u8; 4096];
+    match begin(rt, folder, &mut name) {
+        Ok(file) => {
+            let n = folder.len() + NEW_SIZE;
+            finish_first(rt, file, &name, n, path, rights, bytes)
+        }
+        Err(error) => {
+            tell(rt, path, error);
+            false
+        }
     }
-    finish_first(fd, &name, folder.len() + NEW_SIZE, path, rights, bytes)
 }
 
 // Replaces the table of a file, or makes the file; gives back whether it did. Where it did not, the old table stands and the reason is told.
-pub fn replace(path: &[u8], rights: Rights, bytes: &[u8]) -> bool {
-    if !is_writable(path) {
+pub fn replace<R: Files<File = File> + RandomSource + Complaints>(
+    rt: &R,
+    path: &[u8],
+    rights: Rights,
+    bytes: &[u8],
+) -> bool {
+    if !is_writable(rt, path) {
         return false;
     }
     let n = folder(path);
-    replace_in(&path[0..n], path, rights, bytes)
+    replace_in(rt, &path[0..n], path, rights, bytes)
 }

@@ -1,6 +1,7 @@
 // Text that is put together in a buffer and then written at once, so that what several programs write to one output stays whole.
 use crate::digits::decimal;
 use crate::text::print;
+use std::io;
 
 // The room for a text.
 pub const PAGE: usize = 1024;
@@ -33,11 +34,11 @@ pub fn add_natural(page: &mut [u8], at: usize, text: &[u8], n: u64) -> usize {
     add_decimal(page, next, n)
 }
 
-// Writes the first n bytes of a buffer to standard output at once, and gives back whether all of them were written.
-pub fn print_page(page: &[u8; PAGE], n: usize) -> bool {
+// Writes the first n bytes of a buffer to standard output at once. A text that had no room is none, and that is an error.
+pub fn print_page(rt: &impl Print, page: &[u8; PAGE], n: usize) -> io::Result<()> {
     let text: &[u8] = page;
     if n <= text.len() {
-        return print(&text[0..n]);
+        return print(rt, &text[0..n]);
     }
-    false
+    Err(io::Error::other("the text is too long"))
 }

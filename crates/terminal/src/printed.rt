@@ -4,6 +4,7 @@ ghost use Rattle.std.specs.Prelude.{◌≤◌, length};
 use crate::escape::add_quoted;
 use crate::page::{PAGE, add, add_natural, print_page};
 use crate::text::find;
+use std::io;
 
 // How far a reply is read, and how far its page is filled.
 #[derive(Clone, Copy)]
@@ -221,12 +222,12 @@ fn add_reply(page: &mut [u8], reply: &[u8]) -> usize {
     add(page, step.at, b"malformed reply\n")
 }
 
-// Prints a reply as redis-cli does, in one write, and gives back whether all of it was written. A reply of no bytes prints nothing.
-pub fn print_reply(reply: &[u8]) -> bool {
+// Prints a reply as redis-cli does, in one write. A reply of no bytes prints nothing.
+pub fn print_reply(rt: &impl Print, reply: &[u8]) -> io::Result<()> {
     if reply.len() == 0 {
-        return true;
+        return Ok(());
     }
     let mut page = [0u8; PAGE];
     let n = add_reply(&mut page, reply);
-    print_page(&page, n)
+    print_page(rt, &page, n)
 }

@@ -33,7 +33,7 @@ pub fn pairs() -> u64 {
 pub fn diff_program() -> PathBuf {
     match env::var_os("PIETRUNEL_DIFF") {
         Some(path) => path.into(),
-        None => Path::new(env!("CARGO_MANIFEST_DIR")).join("../../target/bin/diff"),
+        None => Path::new(env!("CARGO_MANIFEST_DIR")).join("../../crates/diff/out/diff"),
     }
 }
 

@@ -161,7 +161,7 @@ impl Program {
         let path = settings::diff_program();
         assert!(
             path.is_file(),
-            "{} is not there: run `rt check diff` at the repository's root, or set PIETRUNEL_DIFF \
+            "{} is not there: run `rt run` in crates/diff, or set PIETRUNEL_DIFF \
              to the program's whole path",
             path.display()
         );

@@ -11,28 +11,23 @@ use Rattle.access.proofs.del.Tie as tie
 
 number-requires : tie.Need-number-requires
 number-requires c κs =
-    let s = c in
-    (number_in s.requires.1 0 (omega arith), omega arith)
+    (number_in c.requires.1 0 (omega arith), omega arith)
 
 returns : tie.Need-returns-in_default
 returns c =
-    let s = c in
-    does-answer _ s.args.table.now _ _ _ _ (del-absent s.args.table.now s.args.target _ _ c.in_default.in_default-own.keys2) c.number.ensures
+    does-answer _ c.args.table.now _ _ _ _ (del-absent c.args.table.now c.args.target _ _ c.in_default.in_default-own.keys2) c.number.ensures
 
 clear-requires : tie.Need-clear-requires
 clear-requires c κs =
-    let s = c in
-    (s.requires.0.reads, within _ _ _ (in-use-here (shape_of s.args.target) s.args.table.now _ _ c.in-Live.is s.requires.0.at))
+    (c.requires.0.reads, within _ _ _ (in-use-here (shape_of c.args.target) c.args.table.now _ _ c.in-Live.is c.requires.0.at))
 
 number-requires-2 : tie.Need-number-requires-2
 number-requires-2 c κs =
-    let s = c in
-    (number_in s.requires.1 1 (omega arith), omega arith)
+    (number_in c.requires.1 1 (omega arith), omega arith)
 
 returns-2 : tie.Need-returns
 returns-2 c =
-    let s = c in
-    does-store _ s.args.table.now _ _ _ _ (del-live s.args.table.now s.args.target _ _ _ _ c.in-Live.is) c.clear.ensures c.number-2.ensures
+    does-store _ c.args.table.now _ _ _ _ (del-live c.args.table.now c.args.target _ _ _ _ c.in-Live.is) c.clear.ensures c.number-2.ensures
 
 pub del_spec : {M : Type 1} → statement M
 del_spec =

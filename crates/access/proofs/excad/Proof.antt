@@ -13,38 +13,31 @@ use Rattle.access.proofs.excad.Tie as tie
 
 minus-one-requires : tie.Need-minus_one-requires
 minus-one-requires c κs =
-    let s = c in
-    minus_one-in s.requires.1
+    minus_one-in c.requires.1
 
 returns : tie.Need-returns-in_default
 returns c =
-    let s = c in
-    does-answer _ s.args.table.now _ _ _ _ (excad-absent s.args.table.now s.args.target _ _ c.in_default.in_default-own.keys2 _) c.minus_one.ensures
+    does-answer _ c.args.table.now _ _ _ _ (excad-absent c.args.table.now c.args.target _ _ c.in_default.in_default-own.keys2 _) c.minus_one.ensures
 
 clear-requires : tie.Need-clear-requires
 clear-requires c κs =
-    let s = c in
-    (s.requires.0.reads, within _ _ _ (in-use-here (shape_of s.args.target) s.args.table.now _ _ c.in-Live.is s.requires.0.at))
+    (c.requires.0.reads, within _ _ _ (in-use-here (shape_of c.args.target) c.args.table.now _ _ c.in-Live.is c.requires.0.at))
 
 number-requires : tie.Need-number-requires
 number-requires c κs =
-    let s = c in
-    (number_in s.requires.1 _ (omega arith), omega arith)
+    (number_in c.requires.1 _ (omega arith), omega arith)
 
 returns-2 : tie.Need-returns-then-version-attributes
 returns-2 c =
-    let s = c in
-    does-store _ s.args.table.now _ _ _ _ (excad-live s.args.table.now s.args.target _ _ _ _ c.in-Live.is _ ∙ rw (eq-eqb _ _ c.if-version-attributes.true)) c.clear.ensures c.number.ensures
+    does-store _ c.args.table.now _ _ _ _ (excad-live c.args.table.now c.args.target _ _ _ _ c.in-Live.is _ ∙ rw (eq-eqb _ _ c.if-version-attributes.true)) c.clear.ensures c.number.ensures
 
 number-requires-2 : tie.Need-number-requires-2
 number-requires-2 c κs =
-    let s = c in
-    (number_in s.requires.1 _ (omega arith), omega arith)
+    (number_in c.requires.1 _ (omega arith), omega arith)
 
 returns-3 : tie.Need-returns
 returns-3 c =
-    let s = c in
-    does-answer _ s.args.table.now _ _ _ _ (excad-live s.args.table.now s.args.target _ _ _ _ c.in-Live.is _ ∙ rw (ne_eqb _ _ c.if-version-attributes.false)) c.number-2.ensures
+    does-answer _ c.args.table.now _ _ _ _ (excad-live c.args.table.now c.args.target _ _ _ _ c.in-Live.is _ ∙ rw (ne_eqb _ _ c.if-version-attributes.false)) c.number-2.ensures
 
 pub excad_spec : {M : Type 1} → statement M
 excad_spec =

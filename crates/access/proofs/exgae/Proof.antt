@@ -11,26 +11,22 @@ use Rattle.access.proofs.exgae.Tie as tie
 
 nil-requires : tie.Need-nil-requires
 nil-requires c κs =
-    let s = c in
-    nil-in s.requires.1
+    nil-in c.requires.1
 
 returns : tie.Need-returns-in_default
 returns c =
-    let s = c in
-    does-answer _ s.args.table.now _ _ _ _ (exgae-absent s.args.table.now s.args.target _ _ c.in_default.in_default-own.keys2 _) c.nil.ensures
+    does-answer _ c.args.table.now _ _ _ _ (exgae-absent c.args.table.now c.args.target _ _ c.in_default.in_default-own.keys2 _) c.nil.ensures
 
 set-attributes-requires : tie.Need-set_attributes-requires
 set-attributes-requires c κs =
-    let s = c in
-    (s.requires.0.reads, in-use-here (shape_of s.args.target) s.args.table.now _ _ c.in-Live.is s.requires.0.at)
+    (c.requires.0.reads, in-use-here (shape_of c.args.target) c.args.table.now _ _ c.in-Live.is c.requires.0.at)
 
 returns-2 : tie.Need-returns
 returns-2 c =
-    let s = c in
     let h = c.in-Live.is in
-    does-after _ s.args.table.now _ _ _ _ (exgae-live s.args.table.now s.args.target _ _ _ _ h _)
-    (c.set_attributes.ensures ∙ touched s.args.table.now s.args.target [] [] _ _ h s.args.expire _ c.expiry_after-expiry.ensures)
-    (exget-live s.args.table.now s.args.target _ _ _ _ h _) c.exget-shown.ensures
+    does-after _ c.args.table.now _ _ _ _ (exgae-live c.args.table.now c.args.target _ _ _ _ h _)
+    (c.set_attributes.ensures ∙ touched c.args.table.now c.args.target [] [] _ _ h c.args.expire _ c.expiry_after-expiry.ensures)
+    (exget-live c.args.table.now c.args.target _ _ _ _ h _) c.exget-shown.ensures
 
 pub exgae_spec : {M : Type 1} → statement M
 exgae_spec =

@@ -19,30 +19,25 @@ value-is c = c.value-value.ensures ∙ ap (λ (r : Record). r.value) c.record_at
 
 nil-requires : tie.Need-nil-requires
 nil-requires c κs =
-    let s = c in
-    nil-in s.requires.1
+    nil-in c.requires.1
 
 returns : tie.Need-returns-in_default
 returns c =
-    let s = c in
-    does-answer _ s.args.table.now _ _ _ _ (exget-absent s.args.table.now s.args.target _ _ c.in_default.in_default-own.keys2 _) c.nil.ensures
+    does-answer _ c.args.table.now _ _ _ _ (exget-absent c.args.table.now c.args.target _ _ c.in_default.in_default-own.keys2 _) c.nil.ensures
 
 record-at-requires : tie.Need-record_at-requires
 record-at-requires c κs =
-    let s = c in
-    (s.requires.0.reads, in-use-here (shape_of s.args.target) s.args.table.now _ _ c.in-Live.is s.requires.0.at)
+    (c.requires.0.reads, in-use-here (shape_of c.args.target) c.args.table.now _ _ c.in-Live.is c.requires.0.at)
 
 get-requires : tie.Need-get-requires
 get-requires c κs =
-    let s = c in
-    let h = live_here_lem (shape_of s.args.target) s.args.table.now _ _ c.in-Live.is s.requires.0.at in
-    (get_in s.requires.1 s.args.with_flags _ _ h.range (value-is c.before), h.range.version-to)
+    let h = live_here_lem (shape_of c.args.target) c.args.table.now _ _ c.in-Live.is c.requires.0.at in
+    (get_in c.requires.1 c.args.with_flags _ _ h.range (value-is c.before), h.range.version-to)
 
 returns-2 : tie.Need-returns
 returns-2 c =
-    let s = c in
-    does-answer _ s.args.table.now _ _ _ _ (exget-live s.args.table.now s.args.target _ _ _ _ c.in-Live.is _)
-    (replied-get (live_here s.args.table.now s.args.target _ c.in-Live.attributes) _ (value-is c.before.before.before.before) s.args.with_flags c.get.ensures)
+    does-answer _ c.args.table.now _ _ _ _ (exget-live c.args.table.now c.args.target _ _ _ _ c.in-Live.is _)
+    (replied-get (live_here c.args.table.now c.args.target _ c.in-Live.attributes) _ (value-is c.before.before.before.before) c.args.with_flags c.get.ensures)
 
 pub exget_spec : {M : Type 1} → statement M
 exget_spec =

@@ -13,10 +13,9 @@ use Rattle.arguments.proofs.signed_word.Tie as tie
 
 returns-2 : tie.Need-returns
 returns-2 c =
-    let z = c in
-    let r = z in
-    let fits : SFits w64 z.in-Value.by = record { sfits = c.in-Value.known_told-1-own.given.0.1 } in
-    ap (λ (y : ℤ). ok y) (back_is fits) ∙ signed-checked (read_signed r.args.w.now) r.read_signed.ensures z.in-Value.is
+    let r = c in
+    let fits : SFits w64 c.in-Value.by = record { sfits = c.in-Value.known_told-1-own.given.0.1 } in
+    ap (λ (y : ℤ). ok y) (back_is fits) ∙ signed-checked (read_signed r.args.w.now) r.read_signed.ensures c.in-Value.is
 
 pub signed_word_spec : {M : Type 1} → statement M
 signed_word_spec =
@@ -25,5 +24,5 @@ signed_word_spec =
     (λ c κs. search rules)
     (λ c. search rules)
     (λ c. search rules)
-    (λ c. let r = c in signed-checked (read_signed r.args.w.now) r.read_signed.ensures c.in_default.is)
+    (λ c. signed-checked (read_signed c.args.w.now) c.read_signed.ensures c.in_default.is)
     returns-2)

@@ -12,6 +12,5 @@ version_word_spec =
     (λ c κs. search rules)
     (λ c. search rules)
     (λ c. search rules)
-    (λ c. let r = c in natural-checked (read_version r.args.w.now) r.read_version.ensures c.in_default.is)
-    (λ c. let n = c in let r = n in
-    natural-checked (read_version r.args.w.now) r.read_version.ensures n.in-Value.is))
+    (λ c. natural-checked (read_version c.args.w.now) c.read_version.ensures c.in_default.is)
+    (λ c. natural-checked (read_version c.args.w.now) c.read_version.ensures c.in-Value.is))

@@ -18,14 +18,14 @@ abbrev start : tie.Else-bytes-held → tie.Start
 start c = c.before.before.before.before
 
 abbrev tested : tie.After-scan → tie.Else-bytes-held
-tested c = c.before.before.before.before
+tested c = c.before.before.before
 
 -- what the scan of the bytes held told, by its case
 scanned : (c : tie.After-scan) {x : Scanned} → c.scan.result ≡ x → let a = (start (tested c)).args in
     scan machine.begin (take a.held a.bytes.now) ≡ scan_of x
 scanned c e =
-    let b = c in let a = (start (tested c)).args in
-    ap (λ (st : machine.State). scan st (take a.held a.bytes.now)) (sym b.begin.ensures) ∙ (sym (rw sub-zero at c.scan.ensures) ∙ ap scan_of e)
+    let a = (start (tested c)).args in
+    ap (λ (st : machine.State). scan st (take a.held a.bytes.now)) (sym c.begin.ensures) ∙ (sym (rw sub-zero at c.scan.ensures) ∙ ap scan_of e)
 
 returns : tie.Need-returns-then-bytes-lt-SIZE
 returns c = let a = c.args in assembles-refused a.bytes.now a.held a.piece.now 0 (in-short a.bytes.now a.held a.piece.now (omega (arith, c.if-bytes-lt-SIZE.true)))
@@ -36,12 +36,12 @@ returns-2 c =
     assembles-refused a.bytes.now a.held a.piece.now 0 (in-beyond a.bytes.now a.held a.piece.now c.if-bytes-held.true)
 
 scan-requires : tie.Need-scan-requires
-scan-requires c κs = let b = c in omega (arith, ap (λ (st : machine.State). st.used) b.begin.ensures, ap (λ (st : machine.State). need st.place) b.begin.ensures)
+scan-requires c κs = omega (arith, ap (λ (st : machine.State). st.used) c.begin.ensures, ap (λ (st : machine.State). need st.place) c.begin.ensures)
 
 extend-requires : tie.Need-extend-requires
 extend-requires c κs =
-    let t = c in let s = t.before.before in let e = tested s in
-    record { room = e.if-bytes-lt-SIZE.left; held = e.if-bytes-held.left; state = scanned s t.in-More.is }
+    let s = c.before.before in let e = tested s in
+    record { room = e.if-bytes-lt-SIZE.false; held = e.if-bytes-held.false; state = scanned s c.in-More.is }
 
 returns-3 : tie.Need-returns-in-More
 returns-3 c = c.extend.ensures
@@ -49,12 +49,12 @@ returns-3 c = c.extend.ensures
 returns-4 : tie.Need-returns-in-Whole
 returns-4 c =
     let s = c.before in let e = tested s in let a = (start e).args in
-    assembles-improper a.bytes.now a.held a.piece.now e.if-bytes-lt-SIZE.left e.if-bytes-held.left _ (scanned s c.in-Whole.is) refl
+    assembles-improper a.bytes.now a.held a.piece.now e.if-bytes-lt-SIZE.false e.if-bytes-held.false _ (scanned s c.in-Whole.is) refl
 
 returns-5 : tie.Need-returns-in-Dead
 returns-5 c =
     let s = c.before in let e = tested s in let a = (start e).args in
-    assembles-improper a.bytes.now a.held a.piece.now e.if-bytes-lt-SIZE.left e.if-bytes-held.left _ (scanned s c.in-Dead.is) refl
+    assembles-improper a.bytes.now a.held a.piece.now e.if-bytes-lt-SIZE.false e.if-bytes-held.false _ (scanned s c.in-Dead.is) refl
 
 pub assemble_spec : {M : Type 1} → statement M
 assemble_spec =

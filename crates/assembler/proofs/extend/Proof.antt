@@ -15,28 +15,23 @@ scanned c e = sym c.scan.ensures ∙ ap scan_of e
 
 copy-requires : tie.Need-copy-requires
 copy-requires c κs =
-    let t = c in let s = t.before.before in let p = s in
-    omega (arith, going-room p.requires p.args.piece.now (state_of t.in-More.field-0) (scanned s t.in-More.is))
+    let s = c.before.before in omega (arith, going-room s.requires s.args.piece.now (state_of c.in-More.field-0) (scanned s c.in-More.is))
 
 keep-requires : tie.Need-keep-requires
 keep-requires c κs =
-    let n = c in let s = n.before.before in let p = s in
-    ended-room p.requires p.args.piece.now n.in-Whole.n (scanned s n.in-Whole.is)
+    let s = c.before.before in ended-room s.requires s.args.piece.now c.in-Whole.n (scanned s c.in-Whole.is)
 
 returns : tie.Need-returns-in-More
 returns c =
-    let k = c in let t = k in let s = t.before.before.before.before.before in let p = s in
-    assembles-more p.requires p.args.piece.now (state_of t.in-More.field-0) (scanned s t.in-More.is) _ k.copy.ensures
+    let s = c.before.before.before.before.before in assembles-more s.requires s.args.piece.now (state_of c.in-More.field-0) (scanned s c.in-More.is) _ c.copy.ensures
 
 returns-2 : tie.Need-returns-in-Whole
 returns-2 c =
-    let k = c in let n = k in let s = n.before.before.before.before.before in let p = s in
-    assembles-whole p.requires p.args.piece.now n.in-Whole.n (scanned s n.in-Whole.is) _ k.keep.ensures
+    let s = c.before.before.before.before.before in assembles-whole s.requires s.args.piece.now c.in-Whole.n (scanned s c.in-Whole.is) _ c.keep.ensures
 
 returns-3 : tie.Need-returns-in-Dead
 returns-3 c =
-    let n = c in let s = n.before in let p = s in
-    assembles-dead p.requires p.args.piece.now n.in-Dead.n (scanned s n.in-Dead.is)
+    let s = c.before in assembles-dead s.requires s.args.piece.now c.in-Dead.n (scanned s c.in-Dead.is)
 
 pub extend_spec : {M : Type 1} → statement M
 extend_spec =

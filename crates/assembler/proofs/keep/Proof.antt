@@ -18,17 +18,16 @@ copied c =
     rw (sub-zero a.n) at c.copy.ensures
 
 copy-requires : tie.Need-copy-requires
-copy-requires c κs = let s = c in simp (sub-zero, length-take) (omega (arith, s.requires))
+copy-requires c κs = simp (sub-zero, length-take) (omega (arith, c.requires))
 
 same_length : tie.Need-shape_of-bytes
 same_length c =
-    let p = c.before.before in let s = p in let a = s.args in
-    ap length (copied p) ∙ length-written a.held (take a.n a.piece.now) a.bytes.now (omega (arith, s.requires, length-take a.n a.piece.now))
+    let p = c.before.before in let a = p.args in
+    ap length (copied p) ∙ length-written a.held (take a.n a.piece.now) a.bytes.now (omega (arith, p.requires, length-take a.n a.piece.now))
 
 returns-2 : tie.Need-returns
 returns-2 c =
-    let p = c.before.before in let e = p in
-    rw (ne_eqb e.args.held 0 e.if-held-eq0.false) (copied p)
+    let p = c.before.before in rw (ne_eqb p.args.held 0 p.if-held-eq0.false) (copied p)
 
 pub keep_spec : {M : Type 1} → statement M
 keep_spec =

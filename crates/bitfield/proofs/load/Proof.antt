@@ -46,11 +46,9 @@ load_spec =
     (tie.spec
     (λ c. search rules)
     (λ c.
-    let s = c in
-    holds-nothing s.requires.1.0 (sym (ap (λ (o : Option Record). value_or_empty o) (none-live (shape_of s.args.target) s.args.table.now s.args.target.found c.in_default.in_default-own.keys2))))
+    holds-nothing c.requires.1.0 (sym (ap (λ (o : Option Record). value_or_empty o) (none-live (shape_of c.args.target) c.args.table.now c.args.target.found c.in_default.in_default-own.keys2))))
     (λ c κs.
-    let s = c in
-    (s.requires.0.reads, in-use-here (shape_of s.args.target) s.args.table.now _ _ c.in-Live.is s.requires.0.at))
+    (c.requires.0.reads, in-use-here (shape_of c.args.target) c.args.table.now _ _ c.in-Live.is c.requires.0.at))
     (λ c κs. search rules)
     (λ c κs. fits c.before)
     (λ c. search rules)

@@ -39,12 +39,10 @@ put_answer_spec =
     (tie.spec
     (λ c. search rules)
     (λ c κs.
-    let k = c.before in let s = k in
-    subst (λ (b : List ℕ). s.args.at + length b ≤ length s.args.text.now) (sym (answer-is k)) s.requires)
+    let k = c.before in subst (λ (b : List ℕ). k.args.at + length b ≤ length k.args.text.now) (sym (answer-is k)) k.requires)
     (λ c. search rules)
     (λ c κs.
-    let k = c.before in let s = k in
-    subst (λ (b : List ℕ). s.args.at + length b ≤ length s.args.text.now) (sym (nothing k)) s.requires)
+    let k = c.before in subst (λ (b : List ℕ). k.args.at + length b ≤ length k.args.text.now) (sym (nothing k)) k.requires)
     (λ c. search rules)
     returns
     (λ c. search rules)

@@ -28,9 +28,8 @@ start c = c.before.before.before
 loop-holds : tie.Need-loop-i-init invariant-loop decreases-loop
 unfolding model_subs
 loop-holds c =
-    let s = c in
-    let h = begin {old = s.args.text.now} (model_subs s.args.subs) s.requires.0 s.requires.1 (omega (arith, length-subs s.args.subs, s.requires.2)) in
-    rw (sub-zero s.args.subs.count) h
+    let h = begin {old = c.args.text.now} (model_subs c.args.subs) c.requires.0 c.requires.1 (omega (arith, length-subs c.args.subs, c.requires.2)) in
+    rw (sub-zero c.args.subs.count) h
 
 -- the next subcommand, and those after it
 going : (c : tie.After-sub_at invariant-loop decreases-loop) → let l = c.before.before.before.before in let s = start l in
@@ -55,10 +54,10 @@ run_spec =
     loop-holds
     (λ c κs. search rules)
     (λ c κs. ((going c).clean, may-run (going c)))
-    (λ c κs. let r = c in answer-room (going r.before.before.before.before.before.before) r.run_sub-done.ensures)
+    (λ c κs. answer-room (going c.before.before.before.before.before.before) c.run_sub-done.ensures)
     (λ c. search rules)
     (λ c. search rules)
-    (λ c. let p = c in let r = p in next (going r.before.before.before.before.before.before.before.before.before) r.run_sub-done.ensures p.put_answer.ensures cc)
+    (λ c. next (going c.before.before.before.before.before.before.before.before.before) c.run_sub-done.ensures c.put_answer.ensures cc)
     (λ c. c.loop-i.invariant.size)
     (λ c. c.loop-i.invariant.room)
     (λ c. let l = c.before.before in finish (rw (subs-none (start l).args.subs l.loop-i.i c.loop-i-test.false) at l.loop-i.invariant)))

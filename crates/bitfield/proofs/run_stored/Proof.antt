@@ -22,12 +22,11 @@ run-requires c κs =
 
 returns : tie.Need-returns
 returns c =
-    let r = c in
-    let l = r.before.before.before.before.before.before.before.before.before in
+    let l = c.before.before.before.before.before.before.before.before.before in
     let s = start l in
     let h = l.load-len.ensures in
-    let p : (v : List ℕ) (n : ℕ) → Type 0 = λ v n. LeavesAll (run_subs (model_subs s.args.subs) v) n r.run.new.value s.args.text.now r.run.new.text r.run.result in
-    subst (λ (v : List ℕ). p v (length s.args.value.now)) (front h) (subst (p (take l.load-len.result l.load-len.new.value)) (length-held h) r.run.ensures)
+    let p : (v : List ℕ) (n : ℕ) → Type 0 = λ v n. LeavesAll (run_subs (model_subs s.args.subs) v) n c.run.new.value s.args.text.now c.run.new.text c.run.result in
+    subst (λ (v : List ℕ). p v (length s.args.value.now)) (front h) (subst (p (take l.load-len.result l.load-len.new.value)) (length-held h) c.run.ensures)
 
 pub run_stored_spec : {M : Type 1} → statement M
 run_stored_spec = tie.close (tie.spec (λ c κs. search rules) run-requires (λ c. search rules) (λ c. search rules) returns)

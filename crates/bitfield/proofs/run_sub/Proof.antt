@@ -49,17 +49,17 @@ module _ (c : tie.After-read_bits-bits) where
   given-fits = record { sfits = c.struct_told-1.given.1.1.0.1 }
 
 -- what the sum comes to
-summed : (c : tie.After-increase) → let o = c in let s = start o.before.before in
-    Sum s.args.sub o.in-Incrby.mode (held s) (number_in c.increase.result)
+summed : (c : tie.After-increase) → let s = start c.before.before in
+    Sum s.args.sub c.in-Incrby.mode (held s) (number_in c.increase.result)
 summed c =
-    let o = c in let r = o.before.before in let s = start r in
-    sum_of s.args.sub o.in-Incrby.mode (held s) c.increase.ensures (number_is r refl) (back_is (given-fits r))
+    let r = c.before.before in let s = start r in
+    sum_of s.args.sub c.in-Incrby.mode (held s) c.increase.ensures (number_is r refl) (back_is (given-fits r))
 
 -- an INCRBY that fails
 returns : tie.Need-returns-in_default
 returns c =
-    let i = c.before in let o = i in let s = start o.before.before in
-    nil-leaves s.args.sub (held s) o.in-Incrby.is s.requires.0.holds (summed i ∙ ap number_in c.in_default.is)
+    let i = c.before in let s = start i.before.before in
+    nil-leaves s.args.sub (held s) i.in-Incrby.is s.requires.0.holds (summed i ∙ ap number_in c.in_default.is)
 
 -- GET
 returns-2 : tie.Need-returns-in-Get
@@ -70,16 +70,16 @@ returns-2 c =
 -- SET
 returns-3 : tie.Need-returns-in-Set
 returns-3 c =
-    let n = c in let r = n.before.before.before.before.before.before in let s = start r in
-    set-leaves s.args.sub (held s) n.in-Set.is (back_is (record { sfits = n.number_of-old.type_inv }) ∙ number_is r n.number_of-old.ensures)
+    let r = c.before.before.before.before.before.before in let s = start r in
+    set-leaves s.args.sub (held s) c.in-Set.is (back_is (record { sfits = c.number_of-old.type_inv }) ∙ number_is r c.number_of-old.ensures)
     (back_is (given-fits r)) c.set_field.ensures
 
 -- INCRBY
 returns-4 : tie.Need-returns-in-Number
 returns-4 c =
-    let k = c in let z = k in let i = z.before.before.before.before.before in let o = i in let s = start o.before.before in
-    let f : SFits w64 z.in-Number.z = record { sfits = k.in-Number.known_told-in-Number-1-own.given.0.1 } in
-    sum-leaves s.args.sub (held s) o.in-Incrby.is (back_is f) (summed i ∙ ap number_in z.in-Number.is) c.set_field-in-Incrby.ensures
+    let i = c.before.before.before.before.before in let s = start i.before.before in
+    let f : SFits w64 c.in-Number.z = record { sfits = c.in-Number.known_told-in-Number-1-own.given.0.1 } in
+    sum-leaves s.args.sub (held s) i.in-Incrby.is (back_is f) (summed i ∙ ap number_in c.in-Number.is) c.set_field-in-Incrby.ensures
 
 pub run_sub_spec : {M : Type 1} → statement M
 run_sub_spec =
@@ -90,14 +90,14 @@ run_sub_spec =
     (λ c κs. let r = c.before in (typed (start r), small r))
     (λ c. search rules)
     (λ c κs. let r = c.before in (typed (start r), small r))
-    (λ c κs. let e = c in let s = start e.before.before.before in (s.requires.0, field-within s.args.sub e.in-Set.is refl s.requires.1))
+    (λ c κs. let s = start c.before.before.before in (s.requires.0, field-within s.args.sub c.in-Set.is refl s.requires.1))
     (λ c. search rules)
     (λ c κs. let r = c.before in (typed (start r), small r))
     (λ c. search rules)
     (λ c. search rules)
     (λ c. search rules)
     returns
-    (λ c κs. let o = c in let s = start o.before.before.before.before in (s.requires.0, field-within s.args.sub o.in-Incrby.is refl s.requires.1))
+    (λ c κs. let s = start c.before.before.before.before in (s.requires.0, field-within s.args.sub c.in-Incrby.is refl s.requires.1))
     (λ c. search rules)
     returns-2
     (λ c. search rules)

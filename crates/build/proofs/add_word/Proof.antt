@@ -11,12 +11,11 @@ use Rattle.build.proofs.add_word.Statement.{statement}
 use Rattle.build.proofs.add_word.Tie as tie
 
 returns : tie.Need-returns-then-buffer-len
-returns c = let s = c in add-beyond s.args.buffer.now s.args.word.now s.args.len c.if-buffer-len.true
+returns c = add-beyond c.args.buffer.now c.args.word.now c.args.len c.if-buffer-len.true
 
 returns-2 : tie.Need-returns-then-len-gt512
 returns-2 c =
-    let s = c in
-    add-over s.args.buffer.now s.args.word.now s.args.len c.if-buffer-len.false c.if-len-gt512.true
+    add-over c.args.buffer.now c.args.word.now c.args.len c.if-buffer-len.false c.if-len-gt512.true
 
 -- the first `len` bytes
 front : (c : tie.Else-len-gt512) → let a = c.args in length (take a.len a.buffer.now) ≡ a.len
@@ -24,10 +23,7 @@ front c = let a = c.args in length-take-le a.len a.buffer.now c.if-buffer-len.fa
 
 returns-3 : tie.Need-returns-then-words_left-lt1
 returns-3 c =
-    let l = c in
-    let e = l in
-    let s = e in
-    add-whole s.args.buffer.now s.args.word.now s.args.len e.if-buffer-len.false (omega (arith, l.words_left.ensures, c.if-words_left-lt1.true))
+    add-whole c.args.buffer.now c.args.word.now c.args.len c.if-buffer-len.false (omega (arith, c.words_left.ensures, c.if-words_left-lt1.true))
 
 -- a word is lacking
 lacks : (c : tie.Else-words_left-lt1) → let a = c.args in count (words_left (take a.len a.buffer.now)) ≡ 0 → ⊥
@@ -35,27 +31,18 @@ lacks c e = omega (arith, c.if-words_left-lt1.false, c.words_left.ensures)
 
 put-bulk-requires : tie.Need-put_bulk-requires
 put-bulk-requires c κs =
-    let f = c in
-    let a = f.args in
-    fits-room a.buffer.now a.word.now a.len (sym f.word_fits.ensures ∙ c.if-word_fits.true)
+    let a = c.args in
+    fits-room a.buffer.now a.word.now a.len (sym c.word_fits.ensures ∙ c.if-word_fits.true)
 
 returns-4 : tie.Need-returns-then-word_fits
 returns-4 c =
-    let p = c in
-    let t = p in
-    let f = t in
-    let l = f.before.before.before.before.before.before in
-    let e = l in
-    let s = e in
-    add-wrote s.args.buffer.now s.args.word.now s.args.len e.if-buffer-len.false (lacks l) (sym f.word_fits.ensures ∙ t.if-word_fits.true) p.put_bulk.ensures
+    let l = c.before.before.before.before.before.before in
+    add-wrote l.args.buffer.now l.args.word.now l.args.len l.if-buffer-len.false (lacks l) (sym c.word_fits.ensures ∙ c.if-word_fits.true) c.put_bulk.ensures
 
 returns-5 : tie.Need-returns
 returns-5 c =
-    let f = c in
-    let l = f.before.before in
-    let e = l in
-    let s = e in
-    add-long s.args.buffer.now s.args.word.now s.args.len e.if-buffer-len.false (lacks l) (sym f.word_fits.ensures ∙ c.if-word_fits.false)
+    let l = c.before.before in
+    add-long l.args.buffer.now l.args.word.now l.args.len l.if-buffer-len.false (lacks l) (sym c.word_fits.ensures ∙ c.if-word_fits.false)
 
 pub add_word_spec : {M : Type 1} → statement M
 add_word_spec =

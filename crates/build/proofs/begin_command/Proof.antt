@@ -15,26 +15,22 @@ few c = omega (arith, c.count_digits.ensures, length-nat_text 1 c.args.words (om
 
 returns-3 : tie.Need-returns-then-buffer-count_digits
 returns-3 c =
-    let d = c in
-    let s = d in
-    begin-short s.args.buffer.now s.args.words (omega (arith, c.if-buffer-count_digits.true, d.count_digits.ensures, line-length s.args.words))
+    begin-short c.args.buffer.now c.args.words (omega (arith, c.if-buffer-count_digits.true, c.count_digits.ensures, line-length c.args.words))
 
 room : (c : tie.Else-buffer-count_digits) → let a = c.args in length (line array_mark a.words) ≤ length a.buffer.now
 room c = omega (arith, c.if-buffer-count_digits.false, c.count_digits.ensures, line-length c.args.words)
 
 returns-4 : tie.Need-returns
 returns-4 c =
-    let p = c in
-    let e = p.before.before.before.before in
-    let s = e in
-    begin-wrote s.args.buffer.now s.args.words (omega arith) (omega arith) (room e) p.put_array.ensures
+    let e = c.before.before.before.before in
+    begin-wrote e.args.buffer.now e.args.words (omega arith) (omega arith) (room e) c.put_array.ensures
 
 pub begin_command_spec : {M : Type 1} → statement M
 begin_command_spec =
     tie.close
     (tie.spec
-    (λ c. let s = c in begin-few s.args.buffer.now s.args.words (omega arith))
-    (λ c. let s = c in begin-many s.args.buffer.now s.args.words (omega arith))
+    (λ c. begin-few c.args.buffer.now c.args.words (omega arith))
+    (λ c. begin-many c.args.buffer.now c.args.words (omega arith))
     (λ c κs. search rules)
     (λ c. omega (arith, few c))
     returns-3

@@ -6,10 +6,10 @@ use Rattle.build.proofs.bulk_len.Statement.{statement}
 use Rattle.build.proofs.bulk_len.Tie as tie
 
 add-result : tie.Need-overflow_add-result
-add-result c = let s = c in omega (arith, c.count_digits.ensures, few-digits s.args.word.now s.requires)
+add-result c = omega (arith, c.count_digits.ensures, few-digits c.args.word.now c.requires)
 
 add-result-2 : tie.Need-overflow_add-result-2
-add-result-2 c = let s = c in omega (arith, c.count_digits.ensures, few-digits s.args.word.now s.requires)
+add-result-2 c = omega (arith, c.count_digits.ensures, few-digits c.args.word.now c.requires)
 
 returns : tie.Need-returns
 returns c = omega (arith, c.count_digits.ensures, bulk-length c.args.word.now)

@@ -21,27 +21,21 @@ some_left c = omega arith
 
 returns : tie.Need-returns-then-left-eq0 invariant-loop decreases-loop
 returns c =
-    let l = c in
-    let x = drop l.loop-place.place l.args.s.now in
-    sym (ap count l.loop-place.invariant ∙ (ap (λ (n : ℕ). count (bulks_left n x)) c.if-left-eq0.true ∙ left-zero x))
+    let x = drop c.loop-place.place c.args.s.now in
+    sym (ap count c.loop-place.invariant ∙ (ap (λ (n : ℕ). count (bulks_left n x)) c.if-left-eq0.true ∙ left-zero x))
 
 returns-2 : tie.Need-returns-in_default invariant-loop decreases-loop
 returns-2 c =
-    let r = c in
-    let e = r.before.before in
-    let l = e in
-    sym (ap count (l.loop-place.invariant ∙ left-malformed _ _ _ e.loop-place-test.true (some_left e) (sym r.read_bulk.ensures ∙ c.in_default.is)))
+    let e = c.before.before in
+    sym (ap count (e.loop-place.invariant ∙ left-malformed _ _ _ e.loop-place-test.true (some_left e) (sym c.read_bulk.ensures ∙ c.in_default.is)))
 
 loop-again : tie.Need-loop-place-preserved invariant-loop decreases-loop
 loop-again c =
-    let w = c in
-    let r = w in
-    let e = r.before.before in
-    let l = e in
-    l.loop-place.invariant ∙ left-next _ _ _ e.loop-place-test.true (some_left e) (word-at _ _ (sym r.read_bulk.ensures ∙ w.in-At.is))
+    let e = c.before.before in
+    e.loop-place.invariant ∙ left-next _ _ _ e.loop-place-test.true (some_left e) (word-at _ _ (sym c.read_bulk.ensures ∙ c.in-At.is))
 
 returns-3 : tie.Need-returns invariant-loop decreases-loop
-returns-3 c = let l = c in sym (ap count (l.loop-place.invariant ∙ left_end _ _ _ c.loop-place-test.false))
+returns-3 c = sym (ap count (c.loop-place.invariant ∙ left_end _ _ _ c.loop-place-test.false))
 
 pub bulks_left_spec : {M : Type 1} → statement M
 bulks_left_spec =

@@ -19,9 +19,8 @@ returns c =
 
 add-end : tie.Need-overflow_add-end
 add-end c =
-    let s = c in
-    let w = s.args.word.now in
-    omega (arith, c.bulk_len.ensures, bulk-length w, few-digits w c.if-word-gt512.false, c.if-word-gt512.false, s.requires)
+    let w = c.args.word.now in
+    omega (arith, c.bulk_len.ensures, bulk-length w, few-digits w c.if-word-gt512.false, c.if-word-gt512.false, c.requires)
 
 returns-2 : tie.Need-returns
 returns-2 c =

@@ -7,14 +7,12 @@ use Rattle.count.proofs.not_below.Tie as tie
 returns-2 : tie.Need-returns-then-z-least
 returns-2 c =
     let k = c.before in
-    let b = k in
-    below-is _ b.in-At.is (record { sfits = k.in-At.known_told-1-own.given.0.1 }) b.ranges.z c.if-z-least.true
+    below-is _ k.in-At.is (record { sfits = k.in-At.known_told-1-own.given.0.1 }) k.ranges.z c.if-z-least.true
 
 returns-3 : tie.Need-returns
 returns-3 c =
     let k = c.before in
-    let b = k in
-    below-is _ b.in-At.is (record { sfits = k.in-At.known_told-1-own.given.0.1 }) b.ranges.z c.if-z-least.false
+    below-is _ k.in-At.is (record { sfits = k.in-At.known_told-1-own.given.0.1 }) k.ranges.z c.if-z-least.false
 
 pub not_below_spec : {M : Type 1} → statement M
 not_below_spec = tie.close (tie.spec (λ c. search rules) (λ c. search rules) (λ c. search rules) returns-2 returns-3)

@@ -20,11 +20,11 @@ found_inside : (s : tie.Start) {x : Shown} → x ≡ current_value form128 s.arg
 found_inside s e =
     subst (Inside s.args.table.now s.args.time s.args.command.now) (sym e) (inside s.args.table.now s.args.time s.args.command.now)
 
-in-command : (c : tie.After-start) → c.start.given.0.0 + c.start.given.0.1.0 ≤ length c.before.before.before.before.before.args.command.now
-in-command c = found_inside c.before.before.before.before.before (ap model_shown (sym c.start.given.1) ∙ c.before.before.locate.ensures)
+in-command : (c : tie.In-InCommand) → c.in-InCommand.start + c.in-InCommand.len ≤ length c.args.command.now
+in-command c = found_inside c.before.before.before.before (ap model_shown (sym c.in-InCommand.is) ∙ c.locate.ensures)
 
-in-table : (c : tie.After-start2) → c.start2.given.0.0 + c.start2.given.0.1.0 ≤ length c.before.before.before.before.before.args.table.now
-in-table c = found_inside c.before.before.before.before.before (ap model_shown (sym c.start2.given.1) ∙ c.before.before.locate.ensures)
+in-table : (c : tie.In-InTable) → c.in-InTable.start + c.in-InTable.len ≤ length c.args.table.now
+in-table c = found_inside c.before.before.before.before (ap model_shown (sym c.in-InTable.is) ∙ c.locate.ensures)
 
 -- what is given back, where the current value is x
 shows-part : {t c : Bor (List ℕ)} {s x : Shown} → x ≡ s → {r : Bor (List ℕ)} {told : Bool} → Shows t c x r told → Shows t c s r told
@@ -33,34 +33,32 @@ shows-part {t} {c} e {r} {told} h = subst (λ (y : Shown). Shows t c y r told) e
 part-is : (a n : ℕ) (s : List ℕ) → take (a + n - a) (drop a s) ≡ take n (drop a s)
 part-is a n s = ap (λ (k : ℕ). take k (drop a s)) (add-sub_cancel_left a n)
 
-returns : tie.Need-returns
+returns : tie.Need-returns-in-InCommand
 returns c =
-    let l = c.before.before in
-    shows-part (ap model_shown (sym l.start.given.1) ∙ l.before.before.locate.ensures) (record { bytes = part-is l.start.given.0.0 l.start.given.0.1.0 _; place = refl; shown = refl })
+    shows-part (ap model_shown (sym c.in-InCommand.is) ∙ c.locate.ensures) (record { bytes = part-is c.in-InCommand.start c.in-InCommand.len _; place = refl; shown = refl })
 
-returns-2 : tie.Need-returns-2
+returns-2 : tie.Need-returns-in-InTable
 returns-2 c =
-    let l = c.before.before in
-    shows-part (ap model_shown (sym l.start2.given.1) ∙ l.before.before.locate.ensures) (record { bytes = part-is l.start2.given.0.0 l.start2.given.0.1.0 _; place = refl; shown = refl })
+    shows-part (ap model_shown (sym c.in-InTable.is) ∙ c.locate.ensures) (record { bytes = part-is c.in-InTable.start c.in-InTable.len _; place = refl; shown = refl })
 
-returns-3 : tie.Need-returns-3
-returns-3 c = shows-part (ap model_shown (sym c.before.enum_told.given.1) ∙ c.before.before.before.locate.ensures) (record { bytes = refl; place = refl; shown = refl })
+returns-3 : tie.Need-returns-in-Nothing
+returns-3 c = shows-part (ap model_shown (sym c.in-Nothing.is) ∙ c.locate.ensures) (record { bytes = refl; place = refl; shown = refl })
 
-pub current-value-spec : {M : Type 1} → statement M
-current-value-spec =
+pub current_value_spec : {M : Type 1} → statement M
+current_value_spec =
     tie.close
     (tie.spec
     (λ c κs. search rules)
     (λ c. search rules)
-    (λ c. omega (arith, in-command c.before))
+    (λ c. omega (arith, in-command c))
     (λ c. search rules)
     (λ c. search rules)
-    (λ c. in-command c.before)
+    (λ c. in-command c)
     (λ c. search rules)
-    (λ c. omega (arith, in-table c.before))
+    (λ c. omega (arith, in-table c))
     (λ c. search rules)
     (λ c. search rules)
-    (λ c. in-table c.before)
+    (λ c. in-table c)
     (λ c. search rules)
     (λ c. search rules)
     returns

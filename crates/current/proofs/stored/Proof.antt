@@ -19,16 +19,15 @@ inside s =
     inside-table f s.args.table.now s.requires.0 s.args.slot (within f s.args.table.now s.args.slot s.requires.1)
 
 -- the length of the value that is read
-long : (c : tie.After-value) → let s = c.before.before.before in
-    length c.value.result.now ≡ length (record_in (form_of s.args.form) s.args.table.now s.args.slot).value
-long c = ap length c.value.ensures ∙ ap (λ (r : Record). length r.value) c.before.record-at.ensures.is
+long : (c : tie.After-value-len) → length c.value-len.result.now ≡ length (record_in (form_of c.args.form) c.args.table.now c.args.slot).value
+long c = ap length c.value-len.ensures ∙ ap (λ (r : Record). length r.value) c.record_at.ensures.is
 
-pub stored-spec : {M : Type 1} → statement M
-stored-spec =
+pub stored_spec : {M : Type 1} → statement M
+stored_spec =
     tie.close
     (tie.spec
     (λ c κs. search rules)
     (λ c κs. search rules)
     (λ c κs. inside c.before.before.before)
     (λ c. omega (arith, inside c.before.before.before.before))
-    (λ c i. in_table (c.start.ensures i + 48) (long c.before i)))
+    (λ c i. in_table (c.start-start.ensures i + 48) (long c.before i)))

@@ -6,19 +6,18 @@ use Rattle.current.proofs.Showing.{by-version}
 use Rattle.current.proofs.swapped.Statement.{statement}
 use Rattle.current.proofs.swapped.Tie as tie
 
-returns-2 : tie.Need-returns-2
+returns-2 : tie.Need-returns
 returns-2 c =
-    let e = c.before.before in
-    by-version e.before.before.before.args.value (ap checked_version (sym e.enum_told.given.1) ∙ e.before.before.version-after.ensures)
+    by-version c.args.value (ap checked_version (sym c.in-Value.is) ∙ c.version_after.ensures)
 
-pub swapped-spec : {M : Type 1} → statement M
-swapped-spec =
+pub swapped_spec : {M : Type 1} → statement M
+swapped_spec =
     tie.close
     (tie.spec
     (λ c κs. search rules)
     (λ c. search rules)
     (λ c. search rules)
-    (λ c. by-version c.before.before.before.args.value (ap checked_version (sym c.enum-told2.given.1) ∙ c.before.before.version-after.ensures))
+    (λ c. by-version c.args.value (ap checked_version (sym c.in_default.is) ∙ c.version_after.ensures))
     (λ c. search rules)
     (λ c. search rules)
     (λ c. search rules)

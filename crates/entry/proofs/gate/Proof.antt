@@ -13,44 +13,44 @@ use Rattle.entry.proofs.gate.Tie as tie
 
 -- ---- what the tests passed say
 
-abbrev checked : tie.Else1 → tie.After-check
+abbrev checked : tie.Else-not-check → tie.After-check
 checked c = c.before.before.before.before.before
 
-abbrev start : tie.Else1 → tie.Start
+abbrev start : tie.Else-not-check → tie.Start
 start c = (checked c).before.before.before.before.before.before.before.before
 
-sound : (c : tie.Else1) → (checked c).check.result ≡ true
-sound c = not-false (checked c).check.result c.if1.false
+sound : (c : tie.Else-not-check) → (checked c).check.result ≡ true
+sound c = c.if-not-check.false
 
-good : (c : tie.Else1) → faultless form128 (start c).args.table.now ≡ true
+good : (c : tie.Else-not-check) → faultless form128 (start c).args.table.now ≡ true
 good c = sym (checked c).check.ensures.answer ∙ sound c
 
-early : (c : tie.Else2) → (start c.before).args.query.time ≤ time_limit
+early : (c : tie.Else-time-gt-TIME_LIMIT) → (start c.before).args.query.time ≤ time_limit
 early c = omega arith
 
-least : (c : tie.Else1) → (checked c).before.before.before.room.result ≡ form128.reply_room
-least c = (checked c).before.before.before.room.ensures
+least : (c : tie.Else-not-check) → (checked c).room-least.result ≡ form128.reply_room
+least c = (checked c).room-least.ensures
 
-room : (c : tie.Else3) → form128.reply_room ≤ (start c.before.before).args.query.room
+room : (c : tie.Else-room-least) → form128.reply_room ≤ (start c.before.before).args.query.room
 room c = omega (arith, least c.before.before)
 
-returns-4 : tie.Need-returns-4
+returns-4 : tie.Need-returns-in_default
 returns-4 c =
-    let e = c.before.before.before.before in
-    malformed (good e.before.before) (early e.before) (room e) c.before.before.split.ensures c.enum_told.given.1
+    let e = c.before.before.before in
+    malformed (good e.before.before) (early e.before) (room e) c.split.ensures c.in_default.is
 
-returns-5 : tie.Need-returns-5
+returns-5 : tie.Need-returns
 returns-5 c =
-    let e = c.before.before.before.before.before in
+    let e = c.before.before.before in
     let g = e.before.before in
-    passed (good g) (early e.before) (room e) c.before.before.before.split.ensures c.before.count.given.1 ((checked g).check.ensures.index (sound g))
+    passed (good g) (early e.before) (room e) c.split.ensures c.in-Words.is ((checked g).check.ensures.index (sound g))
 
-pub gate-spec : {M : Type 1} → statement M
-gate-spec =
+pub gate_spec : {M : Type 1} → statement M
+gate_spec =
     tie.close
     (tie.spec
     (λ c κs. search rules) (λ c κs. search rules) (λ c. search rules) (λ c. search rules)
-    (λ c. let k = c.before.before.before.before.before in faulty (sym k.check.ensures.answer ∙ not-true k.check.result c.if1.true))
+    (λ c. faulty (sym c.check.ensures.answer ∙ c.if-not-check.true))
     (λ c. search rules) (λ c. search rules)
     (λ c. late (good c.before) (omega arith))
     (λ c. search rules) (λ c. search rules)

@@ -10,77 +10,64 @@ use Rattle.execute.proofs.execute.Tie as tie
 
 exset-requires : tie.Need-exset-requires
 exset-requires c κs =
-    let s = c.before.before.before.before.before.before.before.before.before in
-    (s.requires.0, subst (ActionFits (shape_of s.args.target) s.args.value.now) c.before.before.before.action.given.1 s.requires.1)
+    (c.requires.0, subst (ActionFits (shape_of c.args.target) c.args.value.now) c.in-Exset.is c.requires.1)
 
 exincrby-requires : tie.Need-exincrby-requires
 exincrby-requires c κs =
-    let s = c.before.before.before.before.before.before.before.before.before in
-    (s.requires.0, subst (ActionFits (shape_of s.args.target) s.args.value.now) c.before.before.before.action4.given.1 s.requires.1)
+    (c.requires.0, subst (ActionFits (shape_of c.args.target) c.args.value.now) c.in-Exincrby.is c.requires.1)
 
 excas-requires : tie.Need-excas-requires
 excas-requires c κs =
-    let s = c.before.before.before.before.before.before.before.before.before in
-    (s.requires.0, subst (ActionFits (shape_of s.args.target) s.args.value.now) c.before.before.before.action5.given.1 s.requires.1)
+    (c.requires.0, subst (ActionFits (shape_of c.args.target) c.args.value.now) c.in-Excas.is c.requires.1)
 
 exjoin-requires : tie.Need-exjoin-requires
 exjoin-requires c κs =
-    let s = c.before.before.before.before.before.before.before.before.before in
-    (s.requires.0, subst (ActionFits (shape_of s.args.target) s.args.value.now) c.before.before.before.action7.given.1 s.requires.1)
+    (c.requires.0, subst (ActionFits (shape_of c.args.target) c.args.value.now) c.in-Exjoin.is c.requires.1)
 
-returns : tie.Need-returns
+returns : tie.Need-returns-in-Exset
 returns c =
-    let s = c.before.before.before.before.before.before.before.before.before.before.before.before.before.before in
-    does-as (ap (act_in s.args.table.now s.args.target s.args.key.now s.args.value.now) c.before.before.before.before.before.before.before.before.action.given.1) c.before.before.before.before.exset.ensures
+    does-as (ap (act_in c.args.table.now c.args.target c.args.key.now c.args.value.now) c.in-Exset.is) c.exset.ensures
 
-returns-2 : tie.Need-returns-2
+returns-2 : tie.Need-returns-in-Exget
 unfolding model_action
 returns-2 c =
-    let s = c.before.before.before.before.before.before.before.before.before.before.before.before in
-    does-as (ap (act_in s.args.table.now s.args.target s.args.key.now s.args.value.now) c.before.before.before.before.before.before.action2.given.1) c.before.before.exget.ensures
+    does-as (ap (act_in c.args.table.now c.args.target c.args.key.now c.args.value.now) c.in-Exget.is) c.exget.ensures
 
-returns-3 : tie.Need-returns-3
+returns-3 : tie.Need-returns-in-Exsetver
 unfolding model_action
 returns-3 c =
-    let s = c.before.before.before.before.before.before.before.before.before.before.before.before.before.before in
-    does-as (ap (act_in s.args.table.now s.args.target s.args.key.now s.args.value.now) c.before.before.before.before.before.before.before.before.action3.given.1) c.before.before.before.before.exsetver.ensures
+    does-as (ap (act_in c.args.table.now c.args.target c.args.key.now c.args.value.now) c.in-Exsetver.is) c.exsetver.ensures
 
-returns-4 : tie.Need-returns-4
+returns-4 : tie.Need-returns-in-Exincrby
 unfolding model_action
 returns-4 c =
-    let s = c.before.before.before.before.before.before.before.before.before.before.before.before.before.before in
-    does-as (ap (act_in s.args.table.now s.args.target s.args.key.now s.args.value.now) c.before.before.before.before.before.before.before.before.action4.given.1) c.before.before.before.before.exincrby.ensures
+    does-as (ap (act_in c.args.table.now c.args.target c.args.key.now c.args.value.now) c.in-Exincrby.is) c.exincrby.ensures
 
-returns-5 : tie.Need-returns-5
+returns-5 : tie.Need-returns-in-Excas
 returns-5 c =
-    let s = c.before.before.before.before.before.before.before.before.before.before.before.before.before.before in
-    does-as (ap (act_in s.args.table.now s.args.target s.args.key.now s.args.value.now) c.before.before.before.before.before.before.before.before.action5.given.1) c.before.before.before.before.excas.ensures
+    does-as (ap (act_in c.args.table.now c.args.target c.args.key.now c.args.value.now) c.in-Excas.is) c.excas.ensures
 
-returns-6 : tie.Need-returns-6
+returns-6 : tie.Need-returns-in-Excad
 unfolding model_action
 returns-6 c =
-    let s = c.before.before.before.before.before.before.before.before.before.before.before.before.before.before in
-    does-as (ap (act_in s.args.table.now s.args.target s.args.key.now s.args.value.now) c.before.before.before.before.before.before.before.before.action6.given.1) c.before.before.before.before.excad.ensures
+    does-as (ap (act_in c.args.table.now c.args.target c.args.key.now c.args.value.now) c.in-Excad.is) c.excad.ensures
 
-returns-7 : tie.Need-returns-7
+returns-7 : tie.Need-returns-in-Exjoin
 returns-7 c =
-    let s = c.before.before.before.before.before.before.before.before.before.before.before.before.before.before in
-    does-as (ap (act_in s.args.table.now s.args.target s.args.key.now s.args.value.now) c.before.before.before.before.before.before.before.before.action7.given.1) c.before.before.before.before.exjoin.ensures
+    does-as (ap (act_in c.args.table.now c.args.target c.args.key.now c.args.value.now) c.in-Exjoin.is) c.exjoin.ensures
 
-returns-8 : tie.Need-returns-8
+returns-8 : tie.Need-returns-in-Exgae
 unfolding model_action
 returns-8 c =
-    let s = c.before.before.before.before.before.before.before.before.before.before.before.before.before.before in
-    does-as (ap (act_in s.args.table.now s.args.target s.args.key.now s.args.value.now) c.before.before.before.before.before.before.before.before.action8.given.1) c.before.before.before.before.exgae.ensures
+    does-as (ap (act_in c.args.table.now c.args.target c.args.key.now c.args.value.now) c.in-Exgae.is) c.exgae.ensures
 
-returns-9 : tie.Need-returns-9
+returns-9 : tie.Need-returns-in-Del
 unfolding model_action
 returns-9 c =
-    let s = c.before.before.before.before.before.before.before.before.before.before.before.before.before in
-    does-as (ap (act_in s.args.table.now s.args.target s.args.key.now s.args.value.now) c.before.before.before.before.before.before.before.enum_told.given.1) c.before.before.before.before.del.ensures
+    does-as (ap (act_in c.args.table.now c.args.target c.args.key.now c.args.value.now) c.in-Del.is) c.del.ensures
 
-pub execute-spec : {M : Type 1} → statement M
-execute-spec =
+pub execute_spec : {M : Type 1} → statement M
+execute_spec =
     tie.close
     (tie.spec
     (λ c. search rules)

@@ -15,33 +15,32 @@ abbrev start : tie.After-assemble → tie.Start
 start c = c.before.before.before.before.before.before
 
 -- what the assembler told, by its case
-told : (c : tie.After-assemble) {y : Assembled} → c.assemble.result ≡ y → let a = (start c).args in Assembles a.bytes.now a.held a.piece.now y c.assemble.new.0
-told c e = let a = (start c).args in subst (λ (y : Assembled). Assembles a.bytes.now a.held a.piece.now y c.assemble.new.0) e c.assemble.ensures
+told : (c : tie.After-assemble) {y : Assembled} → c.assemble.result ≡ y → let a = (start c).args in Assembles a.bytes.now a.held a.piece.now y c.assemble.new.bytes
+told c e = let a = (start c).args in subst (λ (y : Assembled). Assembles a.bytes.now a.held a.piece.now y c.assemble.new.bytes) e c.assemble.ensures
 
-add-t16 : tie.Need-overflow-add-t16
-add-t16 c = let m = c.before.before.before.before in omega (arith, more-short (told m c.enum_told.given.1))
+add-t16 : tie.Need-overflow_add-result
+add-t16 c = let m = c.before.before.before in omega (arith, more-short (told m c.in-More.is))
 
-command-requires : tie.Need-command-requires
-command-requires c κs = let n = c.before.before in let m = n.before.before.before.before in whole-within (told m n.n2.given.1)
+command-requires : tie.Need-command-command-requires
+command-requires c κs = let m = c.before.before.before in whole-within (told m c.in-Whole.is)
 
-returns : tie.Need-returns
+returns : tie.Need-returns-in-More
 returns c =
-    let m = c.before.before.before.before in let a = (start m).args in
-    feeds-more (call form128) a.table.now a.time a.reply.now (told m c.enum_told.given.1)
+    let m = c.before.before.before in let a = (start m).args in
+    feeds-more (call form128) a.table.now a.time a.reply.now (told m c.in-More.is)
 
-returns-2 : tie.Need-returns-2
+returns-2 : tie.Need-returns-in-Refused
 returns-2 c =
-    let n = c.before in let m = n.before.before.before.before in let a = (start m).args in
-    feeds-refused (call form128) a.table.now a.time a.reply.now (told m n.n.given.1)
+    let m = c.before.before.before in let a = (start m).args in
+    feeds-refused (call form128) a.table.now a.time a.reply.now (told m c.in-Refused.is)
 
-returns-3 : tie.Need-returns-3
+returns-3 : tie.Need-returns-in-Whole
 returns-3 c =
-    let k = c.before.before.before.before in let p = k.before.before.before in let n = p.before.before.before in
-    let m = n.before.before.before.before in let a = (start m).args in
-    feeds-whole (call form128) a.table.now a.time a.reply.now (told m n.n2.given.1) p.command.ensures k.call.ensures
+    let m = c.before.before.before.before.before.before.before.before.before.before.before in let a = (start m).args in
+    feeds-whole (call form128) a.table.now a.time a.reply.now (told m c.in-Whole.is) c.command-command.ensures c.call-answer.ensures
 
-pub feed-spec : {M : Type 1} → statement M
-feed-spec =
+pub feed_spec : {M : Type 1} → statement M
+feed_spec =
     tie.close
     (tie.spec
     (λ c κs. search rules) (λ c. search rules) add-t16 (λ c. search rules) (λ c. search rules) command-requires (λ c κs. search rules)

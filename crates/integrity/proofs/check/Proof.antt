@@ -38,26 +38,21 @@ decreases-loop table form heads₀ next₀ n above₀ heads next above = above
 -- ---- the length
 
 -- whole records, as many as the model counts
-whole-told : (c : tie.Else-n-size invariant-loop decreases-loop) → let s = c in
-    eqb (length s.args.table.now % record_size (form_of s.args.form)) 0 ≡ true
+whole-told : (c : tie.Else-n-size invariant-loop decreases-loop) → eqb (length c.args.table.now % record_size (form_of c.args.form)) 0 ≡ true
 whole-told c =
-    let s = c in
-    eq-eqb _ _ (whole (form_of s.args.form) (length s.args.table.now) _ _ c.count-n.ensures c.size.ensures c.if-n-size.false)
+    eq-eqb _ _ (whole (form_of c.args.form) (length c.args.table.now) _ _ c.count-n.ensures c.size.ensures c.if-n-size.false)
 
-count-told : (c : tie.Else-n-size invariant-loop decreases-loop) → let s = c in
-    count_of (form_of s.args.form) s.args.table.now ≡ c.count-n.result
+count-told : (c : tie.Else-n-size invariant-loop decreases-loop) → count_of (form_of c.args.form) c.args.table.now ≡ c.count-n.result
 count-told c = sym c.count-n.ensures
 
-sizes-told : (c : tie.Else-n-gt-TABLE_LIMIT invariant-loop decreases-loop) → let s = c in
-    all (size_rules (form_of s.args.form) s.args.table.now) ≡ true
+sizes-told : (c : tie.Else-n-gt-TABLE_LIMIT invariant-loop decreases-loop) → all (size_rules (form_of c.args.form) c.args.table.now) ≡ true
 sizes-told c =
     let n = c.count-n.result in
     rw (whole-told c.before.before, count-told c.before.before, le-leb 1 n (omega arith), le-leb n 256 (omega arith))
 
 mul-if1 : tie.Need-overflow_mul-n invariant-loop decreases-loop
 mul-if1 c =
-    let s = c in
-    rw (c.size.ensures, c.count-n.ensures) (record { fits = omega (arith, div-add-mod' (length s.args.table.now) (record_size (form_of s.args.form))) })
+    rw (c.size.ensures, c.count-n.ensures) (record { fits = omega (arith, div-add-mod' (length c.args.table.now) (record_size (form_of c.args.form))) })
 
 -- an answer that refuses the table
 refused : (s : tie.Start invariant-loop decreases-loop) {heads next : List ℕ} → let f = form_of s.args.form in faultless f s.args.table.now ≡ false
@@ -85,28 +80,24 @@ returns-3 c =
 
 loop-holds : tie.Need-loop-above-init invariant-loop decreases-loop
 loop-holds c =
-    let s = c in
     let n = count-told c.before.before in
-    (omega arith, refl, refl, subst (Passed (form_of s.args.form) s.args.table.now _ _) n (passed_none (form_of s.args.form) s.args.table.now s.requires (omega (arith, n, c.if-n-gt-TABLE_LIMIT.false))))
+    (omega arith, refl, refl, subst (Passed (form_of c.args.form) c.args.table.now _ _) n (passed_none (form_of c.args.form) c.args.table.now c.requires (omega (arith, n, c.if-n-gt-TABLE_LIMIT.false))))
 
 -- ---- a turn
 
 -- the slot is one of the table's
-within : (l : tie.In-loop-above invariant-loop decreases-loop) → let s = l in
-    l.loop-above.above - 1 < count_of (form_of s.args.form) s.args.table.now
+within : (l : tie.In-loop-above invariant-loop decreases-loop) → l.loop-above.above - 1 < count_of (form_of l.args.form) l.args.table.now
 within l = omega (arith, count-told l.before.before.before.before, l.loop-above.invariant.0)
 
 slot-requires : tie.Need-slot-r-requires invariant-loop decreases-loop
 slot-requires c κs =
-    let s = c in
-    inside-count (form_of s.args.form) s.args.table.now (c.loop-above.above - 1) (within c)
+    inside-count (form_of c.args.form) c.args.table.now (c.loop-above.above - 1) (within c)
 
 enter-requires : tie.Need-enter-requires invariant-loop decreases-loop
 enter-requires c κs =
     let l = c.before.before.before in
-    let s = l in
-    let f = form_of s.args.form in
-    let t = s.args.table.now in
+    let f = form_of l.args.form in
+    let t = l.args.table.now in
     let x = l.loop-above.invariant.3.index in (
       ap length c.slot-r.ensures ∙ length-slot f t (l.loop-above.above - 1) (inside-count f t _ (within l)),
       omega (arith, l.loop-above.invariant.0, l.if-n-gt-TABLE_LIMIT.false),
@@ -188,8 +179,7 @@ key-requires c κs =
 key-told : (c : tie.After-key invariant-loop decreases-loop) → let e = c.before.before.before.before.before.before in
     c.key.result.now ≡ (fields (record_at (f e) (i e) (t e))).key
 key-told c =
-    let e = c in
-    c.key.ensures ∙ ap (λ (b : List ℕ). (fields b).key) e.slot-r.ensures
+    c.key.ensures ∙ ap (λ (b : List ℕ). (fields b).key) c.slot-r.ensures
 
 search-chain-requires : tie.Need-search_chain-requires invariant-loop decreases-loop
 search-chain-requires c κs =

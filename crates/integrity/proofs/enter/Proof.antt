@@ -25,29 +25,23 @@ used : (c : tie.Else-not-in_use) → is_used c.args.r.now ≡ true
 used c = sym c.in_use.ensures ∙ c.if-not-in_use.false
 
 -- bytes that are not in use are an empty record if they are zeros
-zeros-told : (c : tie.After-is_zero) → let s = c in
-    c.is_zero.result ≡ is_some (read_slot (form_of s.args.form) s.args.r.now)
+zeros-told : (c : tie.After-is_zero) → c.is_zero.result ≡ is_some (read_slot (form_of c.args.form) c.args.r.now)
 zeros-told c =
-    let s = c in
-    let r = s.args.r.now in
-    c.is_zero.ensures ∙ ap (λ (n : ℕ). same r (replicate n 0)) s.requires.0 ∙ sym (read-unused (form_of s.args.form) r (unused c.before))
+    let r = c.args.r.now in
+    c.is_zero.ensures ∙ ap (λ (n : ℕ). same r (replicate n 0)) c.requires.0 ∙ sym (read-unused (form_of c.args.form) r (unused c.before))
 
 -- those in use, by their test
-record-told : (c : tie.After-is_record) → let s = c in
-    c.is_record.result ≡ is_some (read_slot (form_of s.args.form) s.args.r.now)
+record-told : (c : tie.After-is_record) → c.is_record.result ≡ is_some (read_slot (form_of c.args.form) c.args.r.now)
 record-told c =
-    let s = c in
-    c.is_record.ensures ∙ sym (read-used (form_of s.args.form) s.args.r.now (used c.before))
+    c.is_record.ensures ∙ sym (read-used (form_of c.args.form) c.args.r.now (used c.before))
 
 -- a record in use is entered
-entered : (c : tie.After-enter-first) → let s = c in
-    (first : ℕ) → c.enter-first.result ≡ first
-    → EntersUsed s.args.slot s.args.r.now s.args.heads.now s.args.next.now first c.enter-first.new.heads c.enter-first.new.next
+entered : (c : tie.After-enter-first) → (first : ℕ) → c.enter-first.result ≡ first
+    → EntersUsed c.args.slot c.args.r.now c.args.heads.now c.args.next.now first c.enter-first.new.heads c.enter-first.new.next
 entered c first e =
-    let s = c in
     let u = used c.before.before.before.before.before.before in
     record {
-      used = λ _. subst (λ (n : ℕ). Enters s.args.slot (part 24 24 s.args.r.now) s.args.heads.now s.args.next.now n c.enter-first.new.heads c.enter-first.new.next) e c.enter-first.ensures;
+      used = λ _. subst (λ (n : ℕ). Enters c.args.slot (part 24 24 c.args.r.now) c.args.heads.now c.args.next.now n c.enter-first.new.heads c.enter-first.new.next) e c.enter-first.ensures;
       unused = λ n. never _ u n;
     }
 
@@ -57,14 +51,12 @@ returns c = (sym (zeros-told c.before) ∙ c.if-is_zero.true, record { used = λ
 returns-4 : tie.Need-returns-then-first-eq0
 returns-4 c =
     let e = c.before.before.before.before.before in
-    let p = e in
-    (sym (record-told p.before.before.before.before.before) ∙ p.if-not-is_record.false, entered e 0 (omega arith))
+    (sym (record-told e.before.before.before.before.before) ∙ e.if-not-is_record.false, entered e 0 (omega arith))
 
 returns-5 : tie.Need-returns
 returns-5 c =
     let e = c.before.before.before.before.before in
-    let p = e in
-    (sym (record-told p.before.before.before.before.before) ∙ p.if-not-is_record.false, used p.before.before.before.before.before.before, entered e _ refl)
+    (sym (record-told e.before.before.before.before.before) ∙ e.if-not-is_record.false, used e.before.before.before.before.before.before, entered e _ refl)
 
 pub enter_spec : {M : Type 1} → statement M
 enter_spec =

@@ -20,8 +20,7 @@ at c = ap slot_of (sym c.in-At.is) ∙ c.find.ensures
 
 returns : tie.Need-returns-in_default
 returns c =
-    let s = c in
-    is-absent _ s.args.table.now s.requires.0 s.args.time s.args.key.now (ap slot_of (sym c.in_default.is) ∙ c.find.ensures)
+    is-absent _ c.args.table.now c.requires.0 c.args.time c.args.key.now (ap slot_of (sym c.in_default.is) ∙ c.find.ensures)
 
 record-at-requires : tie.Need-record_at-r-requires
 record-at-requires c κs =
@@ -30,18 +29,16 @@ record-at-requires c κs =
 
 returns-2 : tie.Need-returns-then-is_live
 returns-2 c =
-    let r = c in
-    let s = start r.before.before.before.before in
-    is_live _ s.args.table.now s.requires.0 s.args.time s.args.key.now _ (at r.before.before.before.before) _
-    (c.attributes_of-attributes.ensures ∙ ap attributes_of r.record_at-r.ensures.is)
-    (ap (live s.args.time) (sym r.record_at-r.ensures.is) ∙ (sym c.is_live.ensures ∙ c.if-is_live.true))
+    let s = start c.before.before.before.before in
+    is_live _ s.args.table.now s.requires.0 s.args.time s.args.key.now _ (at c.before.before.before.before) _
+    (c.attributes_of-attributes.ensures ∙ ap attributes_of c.record_at-r.ensures.is)
+    (ap (live s.args.time) (sym c.record_at-r.ensures.is) ∙ (sym c.is_live.ensures ∙ c.if-is_live.true))
 
 returns-3 : tie.Need-returns
 returns-3 c =
-    let r = c in
-    let s = start r.before.before.before.before in
-    is-expired _ s.args.table.now s.requires.0 s.args.time s.args.key.now _ (at r.before.before.before.before)
-    (ap (live s.args.time) (sym r.record_at-r.ensures.is) ∙ (sym c.is_live.ensures ∙ c.if-is_live.false))
+    let s = start c.before.before.before.before in
+    is-expired _ s.args.table.now s.requires.0 s.args.time s.args.key.now _ (at c.before.before.before.before)
+    (ap (live s.args.time) (sym c.record_at-r.ensures.is) ∙ (sym c.is_live.ensures ∙ c.if-is_live.false))
 
 pub look_up_spec : {M : Type 1} → statement M
 look_up_spec =

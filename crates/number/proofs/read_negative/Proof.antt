@@ -97,10 +97,9 @@ returns-3 c =
 
 loop-again : tie.Need-loop-i-preserved invariant-loop decreases-loop
 loop-again c =
-    let v = c in
-    let p = v.before in
+    let p = c.before in
     let t = p.before.before in
-    step-taken t.loop-i.invariant t.loop-i-test.true p.push.result p.push.ensures v.in-Value.v v.in-Value.is
+    step-taken t.loop-i.invariant t.loop-i-test.true p.push.result p.push.ensures c.in-Value.v c.in-Value.is
 
 pub read_negative_spec : {M : Type 1} → statement M
 read_negative_spec =

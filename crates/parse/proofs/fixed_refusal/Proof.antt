@@ -19,14 +19,13 @@ words c = words_of c.args.s.now
 
 -- test 6
 counted : (c : tie.After-count_ok) {b : Bool} → c.count_ok.result ≡ b → let s = c.before.before in b ≡ count_ok (model_rule s.args.rule) (length (words s))
-counted c e = let s = c in sym e ∙ (c.count_ok.ensures ∙ λ i. count_ok (model_rule s.args.rule) (s.requires.1 i))
+counted c e = sym e ∙ (c.count_ok.ensures ∙ λ i. count_ok (model_rule c.args.rule) (c.requires.1 i))
 
 -- test 7
 sized : (c : tie.After-sizes_ok) {b : Bool} → c.sizes_ok.result ≡ b → let s = c.before.before.before.before.before.before in
     b ≡ sizes_ok (form_of s.args.form) (model_rule s.args.rule) (length (word_at 1 (words s))) (length (word_at 2 (words s)))
 sized c e =
-    let v = c in let k = v in let s = k in
-    sym e ∙ (c.sizes_ok.ensures ∙ λ i. sizes_ok (form_of s.args.form) (model_rule s.args.rule) (length (k.word_or_empty-key.ensures i)) (length (v.word_or_empty-value.ensures i)))
+    sym e ∙ (c.sizes_ok.ensures ∙ λ i. sizes_ok (form_of c.args.form) (model_rule c.args.rule) (length (c.word_or_empty-key.ensures i)) (length (c.word_or_empty-value.ensures i)))
 
 pub fixed_refusal_spec : {M : Type 1} → statement M
 fixed_refusal_spec =
@@ -38,7 +37,7 @@ fixed_refusal_spec =
     (λ c κs. search rules)
     (λ c κs. search rules)
     (λ c κs. search rules)
-    (λ c. let z = c.before in let t = z in let s = t.before.before.before.before.before.before in
-    fixed-in-turn (form_of s.args.form) (words s) (model_rule s.args.rule) (counted t.before.before.before.before (t.if-not-count_ok.false)) (sized z (c.if-not-sizes_ok.true)))
-    (λ c. let z = c.before in let t = z in let s = t.before.before.before.before.before.before in
-    fixed-in-turn (form_of s.args.form) (words s) (model_rule s.args.rule) (counted t.before.before.before.before (t.if-not-count_ok.false)) (sized z (c.if-not-sizes_ok.false))))
+    (λ c. let z = c.before in let s = z.before.before.before.before.before.before in
+    fixed-in-turn (form_of s.args.form) (words s) (model_rule s.args.rule) (counted z.before.before.before.before (z.if-not-count_ok.false)) (sized z (c.if-not-sizes_ok.true)))
+    (λ c. let z = c.before in let s = z.before.before.before.before.before.before in
+    fixed-in-turn (form_of s.args.form) (words s) (model_rule s.args.rule) (counted z.before.before.before.before (z.if-not-count_ok.false)) (sized z (c.if-not-sizes_ok.false))))

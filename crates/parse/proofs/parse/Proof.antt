@@ -38,5 +38,5 @@ parse_spec =
     (λ c. search rules)
     (λ c κs. search rules)
     (λ c. named c.before c.in-Unknown.is refl)
-    (λ c. let k = c in named k.before.before k.in-Known.is c.parse_named.ensures)
-    (λ c. let k = c in named k.before.before k.in-Bitfield.is c.parse_bitfield.ensures))
+    (λ c. named c.before.before c.in-Known.is c.parse_named.ensures)
+    (λ c. named c.before.before c.in-Bitfield.is c.parse_bitfield.ensures))

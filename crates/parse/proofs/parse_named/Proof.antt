@@ -25,7 +25,7 @@ returns c = refused-first (tested c.before) _ c.if-number-ne0.true
 
 returns-2 : tie.Need-returns
 unfolding parse_named
-returns-2 c = let t = c in c.parse_options.ensures ∙ passed_first (tested t.before.before) _ t.if-number-ne0.false
+returns-2 c = c.parse_options.ensures ∙ passed_first (tested c.before.before) _ c.if-number-ne0.false
 
 pub parse_named_spec : {M : Type 1} → statement M
 parse_named_spec =
@@ -34,6 +34,6 @@ parse_named_spec =
     (λ c κs. search rules)
     (λ c κs. search rules)
     returns
-    (λ c κs. let r = c in let s = start c.before in
-    record { splits = s.requires.0; words = s.requires.1; in-time = s.requires.2; rule = r.rule_of-rule.ensures })
+    (λ c κs. let s = start c.before in
+    record { splits = s.requires.0; words = s.requires.1; in-time = s.requires.2; rule = c.rule_of-rule.ensures })
     returns-2)

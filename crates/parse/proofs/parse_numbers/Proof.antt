@@ -26,21 +26,18 @@ returns c = λ time ws gs h.
 
 returns-2 : tie.Need-returns-then-later-ne0
 returns-2 c = λ time ws gs h.
-    let p = c in
-    let a = p.args in
-    numbers-in-turn time ws (model_name a.name) gs (passed_is a.nine _ (omega (arith, p.if-nine-ne0.false)) ∙ h.fixed) (refused-is a.said.number _ (omega (arith, c.if-later-ne0.true)) ∙ h.said)
+    let a = c.args in
+    numbers-in-turn time ws (model_name a.name) gs (passed_is a.nine _ (omega (arith, c.if-nine-ne0.false)) ∙ h.fixed) (refused-is a.said.number _ (omega (arith, c.if-later-ne0.true)) ∙ h.said)
 
 returns-3 : tie.Need-returns
 returns-3 c = λ time ws gs h.
-    let q = c in
-    let p = q in
-    let a = p.args in
+    let a = c.args in
     let n = model_name a.name in
     let fits : SFits w64 a.fixed.by = record { sfits = c.struct_told-1.given.0.1 } in
     ap (λ (x : model.Action). ok (under (word_at 1 ws) x))
     (subst (λ (z : ℤ). model_action (word_at 2 ws) c.action_of-action.result ≡ action_of n (word_at 2 ws) (model_fixed (rule_of n).number z a.fixed.version) (model_said a.said.said)) (back_is fits)
     (c.action_of-action.ensures (word_at 2 ws)))
-    ∙ numbers-in-turn time ws n gs (passed_is a.nine _ (omega (arith, p.if-nine-ne0.false)) ∙ h.fixed) (passed_is a.said.number _ (omega (arith, q.if-later-ne0.false)) ∙ h.said)
+    ∙ numbers-in-turn time ws n gs (passed_is a.nine _ (omega (arith, c.if-nine-ne0.false)) ∙ h.fixed) (passed_is a.said.number _ (omega (arith, c.if-later-ne0.false)) ∙ h.said)
 
 pub parse_numbers_spec : {M : Type 1} → statement M
 parse_numbers_spec = tie.close (tie.spec returns returns-2 (λ c κs. search rules) returns-3)

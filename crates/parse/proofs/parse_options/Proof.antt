@@ -60,11 +60,10 @@ returns-2 c =
 
 returns-3 : tie.Need-returns
 returns-3 c =
-    let e = c in
-    let o = e.before.before.before.before.before in
+    let o = c.before.before.before.before.before in
     let r = o.before.before.before.before in
     let b = first r in
-    options-right b.args.time (words b) (name b) o.options_in-c.result (omega (arith, e.if-c-ne0.false)) (collected o) λ gs t.
+    options-right b.args.time (words b) (name b) o.options_in-c.result (omega (arith, c.if-c-ne0.false)) (collected o) λ gs t.
     c.parse_numbers.ensures b.args.time (words b) gs
     (record {
       fixed = fixed r;

@@ -18,11 +18,10 @@ returns c = λ time ws h r.
 
 returns-2 : tie.Need-returns
 returns-2 c = λ time ws h r.
-    let e = c in
-    let a = e.args in
+    let a = c.args in
     c.parse_numbers.ensures time ws []
     (record { fixed = r.fixed; said = c.unsaid.ensures time ∙ ap (λ (k : Bool). said_in time k []) (ap (λ (m : model.Rule). m.keeps) r.rule) })
-    ∙ none-given time ws (model_name a.name) (omega (arith, h, ap (λ (m : model.Rule). m.fixed) r.rule)) (sym (ap (λ (m : model.Rule). m.timed) r.rule) ∙ e.if-rule.false)
+    ∙ none-given time ws (model_name a.name) (omega (arith, h, ap (λ (m : model.Rule). m.fixed) r.rule)) (sym (ap (λ (m : model.Rule). m.timed) r.rule) ∙ c.if-rule.false)
 
 pub parse_plain_spec : {M : Type 1} → statement M
 parse_plain_spec = tie.close (tie.spec returns (λ c κs. search rules) (λ c κs. search rules) returns-2)

@@ -34,80 +34,78 @@ module _ (s : tie.Start) where
 
 -- ---- the owner's part
 
-owner-cut : (c : tie.After-place) → let s = c.before.before.before.before.before.before in IsCut (f s) (n s) (t s) c.place.given.0.0
+owner-cut : (c : tie.In-At) → let s = c.before.before.before.before in IsCut (f s) (n s) (t s) c.in-At.place
 owner-cut c =
-    let s = c.before.before.before.before.before.before in
-    subst (Cuts (f s) (n s) (t s)) c.place.given.1 c.before.before.place_of.ensures
+    let s = c.before.before.before.before in
+    subst (Cuts (f s) (n s) (t s)) c.in-At.is c.place_of.ensures
 
 -- the installer's part is tested
-owner-told : (c : tie.After-passes) → let s = c.before.before.before.before.before.before.before.before.before in
+owner-told : (c : tie.After-passes) → let s = c.before.before.before.before.before.before in
     c.passes.result ≡ faultless (f s) (partition (f s) installer (n s) (t s))
 owner-told c =
-    let l = c.before.before.before in
-    let s = l.before.before.before.before.before.before in
-    c.passes.ensures ∙ ap (faultless (f s)) (to_end l.place.given.0.0 (t s) ∙ ap (λ (m : ℕ). drop m (t s)) (owner-cut l).place)
+    let l = c.before.before in
+    let s = l.before.before.before.before in
+    c.passes.ensures ∙ ap (faultless (f s)) (to_end l.in-At.place (t s) ∙ ap (λ (m : ℕ). drop m (t s)) (owner-cut l).place)
 
-returns : tie.Need-returns
+returns : tie.Need-returns-then-passes
 returns c =
-    let l = c.before.before.before.before in
-    let s = l.before.before.before.before.before.before in
+    let l = c.before.before.before in
+    let s = l.before.before.before.before in
     let i = owner-cut l in
-    found s l.before.before.before.enum-told2.given.1 (Bytes 0 l.place.given.0.0)
-    (record { start = refl; end = i.place; low = omega arith; high = place-within (f s) (n s) (t s) i; tests = other-good (f s) (n s) (t s) i owner (sym (owner-told c.before) ∙ c.if1.true) })
+    found s l.in-Owner.is (Bytes 0 l.in-At.place)
+    (record { start = refl; end = i.place; low = omega arith; high = place-within (f s) (n s) (t s) i; tests = other-good (f s) (n s) (t s) i owner (sym (owner-told c.before) ∙ c.if-passes.true) })
 
-returns-4 : tie.Need-returns-4
+returns-4 : tie.Need-returns-in-Refused
 returns-4 c =
-    let l = c.before in
-    let s = l.before.before.before.before.before.before in
-    found s l.before.before.before.enum-told2.given.1 (Refused l.number.given.0.0) (subst (Cuts (f s) (n s) (t s)) l.number.given.1 l.before.before.place_of.ensures owner)
+    let s = c.before.before.before.before in
+    found s c.in-Owner.is (Refused c.in-Refused.number) (subst (Cuts (f s) (n s) (t s)) c.in-Refused.is c.place_of.ensures owner)
 
-returns-5 : tie.Need-returns-5
+returns-5 : tie.Need-returns-else-passes
 returns-5 c =
-    let l = c.before.before.before.before in
-    let s = l.before.before.before.before.before.before in
-    found s l.before.before.before.enum-told2.given.1 (Refused 1) (other-bad (f s) (n s) (t s) (owner-cut l) owner (sym (owner-told c.before) ∙ c.if1.false))
+    let l = c.before.before.before in
+    let s = l.before.before.before.before in
+    found s l.in-Owner.is (Refused 1) (other-bad (f s) (n s) (t s) (owner-cut l) owner (sym (owner-told c.before) ∙ c.if-passes.false))
 
 -- ---- the installer's part
 
-installer-cut : (c : tie.After-place2) → let s = c.before.before.before.before.before.before in IsCut (f s) (n s) (t s) c.place2.given.0.0
+installer-cut : (c : tie.In-At-place_of) → let s = c.before.before.before.before in IsCut (f s) (n s) (t s) c.in-At-place_of.place
 installer-cut c =
-    let s = c.before.before.before.before.before.before in
-    subst (Cuts (f s) (n s) (t s)) c.place2.given.1 c.before.before.place-of2.ensures
+    let s = c.before.before.before.before in
+    subst (Cuts (f s) (n s) (t s)) c.in-At-place_of.is c.place_of-in-Installer.ensures
 
 -- the owner's part is tested
-installer-told : (c : tie.After-passes2) → let s = c.before.before.before.before.before.before.before.before.before in
-    c.passes2.result ≡ faultless (f s) (partition (f s) owner (n s) (t s))
+installer-told : (c : tie.After-passes-in-At-place_of) → let s = c.before.before.before.before.before in
+    c.passes-in-At-place_of.result ≡ faultless (f s) (partition (f s) owner (n s) (t s))
 installer-told c =
-    let l = c.before.before.before in
-    let s = l.before.before.before.before.before.before in
-    c.passes2.ensures ∙ ap (faultless (f s)) (ap (λ (m : ℕ). take m (t s)) (installer-cut l).place)
-
-returns-2 : tie.Need-returns-2
-returns-2 c =
-    let l = c.before.before.before.before in
-    let s = l.before.before.before.before.before.before in
-    let i = installer-cut l in
-    found s l.before.before.before.enum-told3.given.1 (Bytes l.place2.given.0.0 (length (t s)))
-    (record { start = i.place; end = refl; low = place-within (f s) (n s) (t s) i; high = omega arith; tests = other-good (f s) (n s) (t s) i installer (sym (installer-told c.before) ∙ c.if2.true) })
-
-returns-6 : tie.Need-returns-6
-returns-6 c =
     let l = c.before in
-    let s = l.before.before.before.before.before.before in
-    found s l.before.before.before.enum-told3.given.1 (Refused l.number2.given.0.0) (subst (Cuts (f s) (n s) (t s)) l.number2.given.1 l.before.before.place-of2.ensures installer)
+    let s = l.before.before.before.before in
+    c.passes-in-At-place_of.ensures ∙ ap (faultless (f s)) (ap (λ (m : ℕ). take m (t s)) (installer-cut l).place)
 
-returns-7 : tie.Need-returns-7
+returns-2 : tie.Need-returns-then-passes-2
+returns-2 c =
+    let l = c.before.before in
+    let s = l.before.before.before.before in
+    let i = installer-cut l in
+    found s l.in-Installer.is (Bytes l.in-At-place_of.place (length (t s)))
+    (record { start = i.place; end = refl; low = place-within (f s) (n s) (t s) i; high = omega arith; tests = other-good (f s) (n s) (t s) i installer (sym (installer-told c.before) ∙ c.if-passes-2.true) })
+
+returns-6 : tie.Need-returns-in-Refused-place_of
+returns-6 c =
+    let s = c.before.before.before.before in
+    found s c.in-Installer.is (Refused c.in-Refused-place_of.number) (subst (Cuts (f s) (n s) (t s)) c.in-Refused-place_of.is c.place_of-in-Installer.ensures installer)
+
+returns-7 : tie.Need-returns-else-passes-2
 returns-7 c =
-    let l = c.before.before.before.before in
-    let s = l.before.before.before.before.before.before in
-    found s l.before.before.before.enum-told3.given.1 (Refused 1) (other-bad (f s) (n s) (t s) (installer-cut l) installer (sym (installer-told c.before) ∙ c.if2.false))
+    let l = c.before.before in
+    let s = l.before.before.before.before in
+    found s l.in-Installer.is (Refused 1) (other-bad (f s) (n s) (t s) (installer-cut l) installer (sym (installer-told c.before) ∙ c.if-passes-2.false))
 
-pub part-in-spec : {M : Type 1} → statement M
-part-in-spec =
+pub part_in_spec : {M : Type 1} → statement M
+part_in_spec =
     tie.close
     (tie.spec
     (λ c. search rules) (λ c. search rules) (λ c κs. search rules) (λ c. search rules) (λ c. search rules)
-    (λ c. omega (arith, place-within _ _ _ (owner-cut c.before))) (λ c. omega (arith, place-within _ _ _ (owner-cut c.before))) (λ c. search rules) (λ c κs. search rules) returns
+    (λ c. omega (arith, place-within _ _ _ (owner-cut c))) (λ c. omega (arith, place-within _ _ _ (owner-cut c))) (λ c. search rules) (λ c κs. search rules) returns
     (λ c. search rules) (λ c κs. search rules) (λ c. search rules) (λ c. search rules)
-    (λ c. let l = c.before.before in sym (length-take-le _ _ (place-within _ _ _ (installer-cut l)))) (λ c κs. search rules) returns-2
-    (λ c. found c.before.before.before c.enum_told.given.1 (Bytes 0 (length (t c.before.before.before))) (record { start = refl; end = refl; low = omega arith; high = omega arith; tests = refl })) returns-4 returns-5 returns-6 returns-7)
+    (λ c. sym (length-take-le _ _ (place-within _ _ _ (installer-cut c)))) (λ c κs. search rules) returns-2
+    (λ c. found c.before.before c.in-Whole.is (Bytes 0 (length (t c.before.before))) (record { start = refl; end = refl; low = omega arith; high = omega arith; tests = refl })) returns-4 returns-5 returns-6 returns-7)

@@ -17,52 +17,51 @@ use Rattle.partition.proofs.place_of.Statement.{statement}
 use Rattle.partition.proofs.place_of.Tie as tie
 
 -- a boundary that is good
-module _ (c : tie.Then1) where
+module _ (c : tie.Then-good) where
   abbrev s : tie.Start
   s = c.before.before.before
 
   least : 1 ≤ s.args.boundary
-  least = leb-true 1 s.args.boundary (and_left (leb 1 s.args.boundary) _ c.if1.true)
+  least = leb-true 1 s.args.boundary (and_left (leb 1 s.args.boundary) _ c.if-good.true)
 
   most : s.args.boundary < length s.args.table.now / record_size form128
-  most = omega (arith, c.before.count.ensures, ltb-true s.args.boundary c.before.count.result (and_right (leb 1 s.args.boundary) _ c.if1.true))
+  most = omega (arith, c.count.ensures, ltb-true s.args.boundary c.count.result (and_right (leb 1 s.args.boundary) _ c.if-good.true))
 
 is_cut : (c : tie.After-size) → let b = c.before.before.before in
     IsCut form128 (s b).args.boundary (s b).args.table.now ((s b).args.boundary * c.size.result)
 is_cut c =
     let b = c.before.before.before in
     record {
-      size = sym c.before.before.has-size.ensures ∙ c.before.if2.true;
+      size = sym c.has_size.ensures ∙ c.if-has_size.true;
       least = least b;
       most = most b;
       place = ap (λ (m : ℕ). (s b).args.boundary * m) c.size.ensures;
     }
 
-mul-place : tie.Need-overflow-mul-place
+mul-place : tie.Need-overflow_mul-place
 mul-place c =
     let b = c.before.before.before in
     let i = is_cut c in
     record { fits = omega (arith, i.place, within-bytes form128 (s b).args.boundary (s b).args.table.now i.size i.least i.most) }
 
-returns-2 : tie.Need-returns-2
+returns-2 : tie.Need-returns-then-good
 returns-2 c =
     let a = (s c.before.before).args in
-    wrong_size form128 a.boundary a.table.now (sym c.before.has-size.ensures ∙ c.if2.false)
+    wrong_size form128 a.boundary a.table.now (sym c.has_size.ensures ∙ c.if-has_size.false)
 
-returns-3 : tie.Need-returns-3
+returns-3 : tie.Need-returns-then-reads
 returns-3 c =
-    let e = c.before.before in
-    let a = e.before.before.before.args in
-    bad-boundary form128 a.boundary a.table.now (sym c.before.reads.ensures ∙ c.if3.true)
-    (ap (λ (m : ℕ). leb 1 a.boundary && ltb a.boundary m) (sym e.before.count.ensures) ∙ e.if1.false)
+    let a = c.args in
+    bad-boundary form128 a.boundary a.table.now (sym c.reads.ensures ∙ c.if-reads.true)
+    (ap (λ (m : ℕ). leb 1 a.boundary && ltb a.boundary m) (sym c.count.ensures) ∙ c.if-good.false)
 
-returns-4 : tie.Need-returns-4
+returns-4 : tie.Need-returns
 returns-4 c =
-    let a = c.before.before.before.before.before.args in
-    unread-refused form128 a.boundary a.table.now (sym c.before.reads.ensures ∙ c.if3.false)
+    let a = c.args in
+    unread-refused form128 a.boundary a.table.now (sym c.reads.ensures ∙ c.if-reads.false)
 
-pub place-of-spec : {M : Type 1} → statement M
-place-of-spec =
+pub place_of_spec : {M : Type 1} → statement M
+place_of_spec =
     tie.close
     (tie.spec
     (λ c κs. search rules) (λ c κs. search rules) (λ c κs. search rules) mul-place is_cut returns-2 (λ c κs. search rules) returns-3 returns-4)

@@ -10,42 +10,41 @@ use Rattle.partition.proofs.Parts.{part_bytes}
 use Rattle.partition.proofs.refusal.Statement.{statement}
 use Rattle.partition.proofs.refusal.Tie as tie
 
-is-part : (c : tie.After-start) → let a = c.before.before.before.before.args in
-    IsPart form128 (model_view a.view) a.table.now c.start.given.0.0 c.start.given.0.1.0
+is-part : (c : tie.In-Bytes) → let a = c.args in
+    IsPart form128 (model_view a.view) a.table.now c.in-Bytes.start c.in-Bytes.end
 is-part c =
-    let a = c.before.before.before.before.args in
-    subst (Finds form128 a.view a.table.now) c.start.given.1 c.before.before.part_in.ensures
+    let a = c.args in
+    subst (Finds form128 a.view a.table.now) c.in-Bytes.is c.part_in.ensures
 
 -- whether the part is good
-told : (c : tie.After-passes) → let a = c.before.before.before.before.before.before.before.args in
+told : (c : tie.After-passes) → let a = c.args in
     c.passes.result ≡ faultless form128 (bytes_in form128 (model_view a.view) a.table.now)
 told c =
-    let l = c.before.before.before in
-    let a = l.before.before.before.before.args in
+    let l = c.before.before in
+    let a = l.args in
     c.passes.ensures ∙ ap (faultless form128) (part_bytes form128 (model_view a.view) a.table.now (is-part l))
 
-returns : tie.Need-returns
+returns : tie.Need-returns-then-passes
 returns c =
-    let l = c.before.before.before.before in
-    let a = l.before.before.before.before.args in
-    sym (ap refusal_of ((is-part l).tests ∙ good-slots form128 _ (sym (told c.before) ∙ c.if1.true)))
+    let l = c.before.before.before in
+    let a = l.args in
+    sym (ap refusal_of ((is-part l).tests ∙ good-slots form128 _ (sym (told c.before) ∙ c.if-passes.true)))
 
-returns-2 : tie.Need-returns-2
+returns-2 : tie.Need-returns-in-Refused
 returns-2 c =
-    let l = c.before in
-    let a = l.before.before.before.before.args in
-    sym (ap refusal_of (subst (Finds form128 a.view a.table.now) l.number.given.1 l.before.before.part_in.ensures))
+    let a = c.args in
+    sym (ap refusal_of (subst (Finds form128 a.view a.table.now) c.in-Refused.is c.part_in.ensures))
 
-returns-3 : tie.Need-returns-3
+returns-3 : tie.Need-returns-else-passes
 returns-3 c =
-    let l = c.before.before.before.before in
-    let a = l.before.before.before.before.args in
-    sym (ap refusal_of ((is-part l).tests ∙ not_good form128 _ (sym (told c.before) ∙ c.if1.false)))
+    let l = c.before.before.before in
+    let a = l.args in
+    sym (ap refusal_of ((is-part l).tests ∙ not_good form128 _ (sym (told c.before) ∙ c.if-passes.false)))
 
-pub refusal-spec : {M : Type 1} → statement M
-refusal-spec =
+pub refusal_spec : {M : Type 1} → statement M
+refusal_spec =
     tie.close
     (tie.spec
     (λ c κs. search rules) (λ c. search rules) (λ c. search rules)
-    (λ c. (is-part c.before).low) (λ c. (is-part c.before).low) (λ c. (is-part c.before).high)
+    (λ c. (is-part c).low) (λ c. (is-part c).low) (λ c. (is-part c).high)
     (λ c κs. search rules) returns returns-2 returns-3)

@@ -13,21 +13,19 @@ use Rattle.pietrunel.proofs.pietrunel_current_value.Tie as tie
 located : (s x : Shown) → s ≡ x → Located s (is_shown x) (is_in_command x) (start_of x) (length_of x)
 located s x e = record { shown = ap is_shown (sym e); in-command = ap is_in_command (sym e); start = ap start_of (sym e); length = ap length_of (sym e) }
 
-returns : tie.Need-returns
-returns c = located _ nothing (sym c.before.before.locate.ensures ∙ ap model_shown c.enum_told.given.1)
+returns : tie.Need-returns-in-Nothing
+returns c = located _ nothing (sym c.locate.ensures ∙ ap model_shown c.in-Nothing.is)
 
-returns-2 : tie.Need-returns-2
+returns-2 : tie.Need-returns-in-InTable
 returns-2 c =
-    let a = c.before.from.given.0 in
-    located _ (in_table a.0 a.1.0) (sym c.before.before.before.locate.ensures ∙ ap model_shown c.before.from.given.1)
+    located _ (in_table c.in-InTable.from c.in-InTable.count) (sym c.locate.ensures ∙ ap model_shown c.in-InTable.is)
 
-returns-3 : tie.Need-returns-3
+returns-3 : tie.Need-returns-in-InCommand
 returns-3 c =
-    let a = c.before.from2.given.0 in
-    located _ (in_command a.0 a.1.0) (sym c.before.before.before.locate.ensures ∙ ap model_shown c.before.from2.given.1)
+    located _ (in_command c.in-InCommand.from c.in-InCommand.count) (sym c.locate.ensures ∙ ap model_shown c.in-InCommand.is)
 
-pub pietrunel-current-value-spec : {M : Type 1} → statement M
-pietrunel-current-value-spec =
+pub pietrunel_current_value_spec : {M : Type 1} → statement M
+pietrunel_current_value_spec =
     tie.close
     (tie.spec
     (λ c κs. search rules)

@@ -15,21 +15,21 @@ start c = c.before.before.before.before.before.before.before.before.before
 -- what the call told, by its case
 told : (c : tie.After-feed) {f : Progress} → c.feed.result ≡ f → let a = (start c).args in
     Feeds (call form128) a.bytes.now a.held.now (inputs a.piece.now a.table.now a.time a.reply.now) f
-    c.feed.new.0 c.feed.new.1.1.1.0 c.feed.new.1.1.1.1.1.0
+    c.feed.new.bytes c.feed.new.table c.feed.new.reply
 told c e =
     let a = (start c).args in
-    subst (λ (f : Progress). Feeds (call form128) a.bytes.now a.held.now (inputs a.piece.now a.table.now a.time a.reply.now) f c.feed.new.0
-    c.feed.new.1.1.1.0 c.feed.new.1.1.1.1.1.0)
+    subst (λ (f : Progress). Feeds (call form128) a.bytes.now a.held.now (inputs a.piece.now a.table.now a.time a.reply.now) f c.feed.new.bytes
+    c.feed.new.table c.feed.new.reply)
     e c.feed.ensures
 
-returns : tie.Need-returns
-returns c = let n = c.before in let t = told n.before.before.before.before.before.before.before.before n.count.given.1 in (ap code_of t.0, t.1)
+returns : tie.Need-returns-in-More
+returns c = let t = told c.before.before.before.before.before.before.before c.in-More.is in (ap code_of t.0, t.1)
 
-returns-2 : tie.Need-returns-2
-returns-2 c = let n = c.before in let t = told n.before.before.before.before.before.before.before.before n.count2.given.1 in (ap code_of t.0, t.1)
+returns-2 : tie.Need-returns-in-Answered
+returns-2 c = let t = told c.before.before.before.before.before.before.before c.in-Answered.is in (ap code_of t.0, t.1)
 
-pub pietrunel-feed-spec : {M : Type 1} → statement M
-pietrunel-feed-spec =
+pub pietrunel_feed_spec : {M : Type 1} → statement M
+pietrunel_feed_spec =
     tie.close
     (tie.spec
     (λ c κs. search rules) (λ c. search rules) (λ c. search rules)

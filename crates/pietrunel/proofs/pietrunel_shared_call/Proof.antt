@@ -15,23 +15,19 @@ use Rattle.pietrunel.proofs.pietrunel_shared_call.Tie as tie
 called : (t : List ℕ) (time : ℕ) (c b : List ℕ) {v w : Option View} → v ≡ w → {a : Answer} {new reply : List ℕ} → Called (call_by v t time c b) a new reply → Called (call_by w t time c b) a new reply
 called t time c b e {a} {new} {reply} h = subst (λ (o : Option View). Called (call_by o t time c b) a new reply) e h
 
-returns : tie.Need-returns
+returns : tie.Need-returns-in_default
 returns c =
-    let v = c.before.before in
-    let a = v.before.before.before.before.args in
-    called a.table.now a.time a.command.now a.reply.now (sym (ap named_view c.enum_told.given.1) ∙ v.view_of.ensures)
+    let a = c.args in
+    called a.table.now a.time a.command.now a.reply.now (sym (ap named_view c.in_default.is) ∙ c.view_of.ensures)
     (record { number = refl; length = refl; table = refl; reply = refl })
 
-returns-2 : tie.Need-returns-2
+returns-2 : tie.Need-returns
 returns-2 c =
-    let k = c.before.before.before.before in
-    let l = k.before.before.before.before in
-    let v = l.before.before in
-    let a = v.before.before.before.before.args in
-    called a.table.now a.time a.command.now a.reply.now (sym (ap named_view l.view.given.1) ∙ v.view_of.ensures) k.call.ensures
+    let a = c.args in
+    called a.table.now a.time a.command.now a.reply.now (sym (ap named_view c.in-View.is) ∙ c.view_of.ensures) c.call-done.ensures
 
-pub pietrunel-shared-call-spec : {M : Type 1} → statement M
-pietrunel-shared-call-spec =
+pub pietrunel_shared_call_spec : {M : Type 1} → statement M
+pietrunel_shared_call_spec =
     tie.close
     (tie.spec
     (λ c κs. search rules) (λ c. search rules) (λ c. search rules) returns (λ c κs. search rules) (λ c. search rules) (λ c. search rules) returns-2)

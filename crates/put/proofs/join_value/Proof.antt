@@ -51,10 +51,8 @@ whole c =
 
 returns : tie.Need-returns-in_default
 returns c =
-    let m = c in
-    let s = m in
-    subst (λ (x : Option (List ℕ)). Puts (shape_of s.args.target) s.args.table.now c.store_value.new.table c.store_value.result (put_in s.args.table.now s.args.target s.args.key.now (model_terms s.args.join.terms) none (joined (model_end s.args.join.end) s.args.value.now x)))
-    (ap (map (λ (r : Record). r.value)) (sym (none-live (shape_of s.args.target) s.args.table.now s.args.target.found m.in_default.in_default-own.keys2))) c.store_value.ensures
+    subst (λ (x : Option (List ℕ)). Puts (shape_of c.args.target) c.args.table.now c.store_value.new.table c.store_value.result (put_in c.args.table.now c.args.target c.args.key.now (model_terms c.args.join.terms) none (joined (model_end c.args.join.end) c.args.value.now x)))
+    (ap (map (λ (r : Record). r.value)) (sym (none-live (shape_of c.args.target) c.args.table.now c.args.target.found c.in_default.in_default-own.keys2))) c.store_value.ensures
 
 returns-2 : tie.Need-returns-in_default-version_after
 returns-2 c =
@@ -70,34 +68,25 @@ record-at-requires c κs =
 
 returns-3 : tie.Need-returns-then-limit-old
 returns-3 c =
-    let r = c in
-    let v = r.before.before.before.before in
+    let v = c.before.before.before.before in
     let s = start v.before in
     puts-refused _ s.args.table.now _ 16
     (put-long s.args.table.now s.args.target _ (model_terms s.args.join.terms) _ _ (risen v) (omega (arith, c.if-limit-old.true, whole c.before.before, c.limit.ensures)))
 
 join-requires : tie.Need-join-requires
 join-requires c κs =
-    let f = c in
-    let l = f in
-    let r = l in
-    let v = r in
-    let s = start v.before.before.before.before.before.before.before.before in
-    (s.requires.0.sound.reads, ((live_here s.args.table.now s.args.target _ _ (here v.before.before.before.before.before.before.before.before) s.requires.0.sound.at).in_use, omega (arith, f.if-limit-old.false, old-is l.before.before.before.before.before, l.limit.ensures)))
+    let s = start c.before.before.before.before.before.before.before.before in
+    (s.requires.0.sound.reads, ((live_here s.args.table.now s.args.target _ _ (here c.before.before.before.before.before.before.before.before) s.requires.0.sound.at).in_use, omega (arith, c.if-limit-old.false, old-is c.before.before.before.before.before, c.limit.ensures)))
 
 returns-4 : tie.Need-returns
 returns-4 c =
-    let j = c in
-    let a = j in
-    let l = a in
-    let r = l in
-    let v = r.before.before.before.before.before.before.before.before.before.before in
+    let v = c.before.before.before.before.before.before.before.before.before.before in
     let s = start v.before in
     let t = s.args.table.now in
     let g = s.args.target in
     puts-joined t g _ _ (here v.before) _ _ s.requires.0 (model_terms s.args.join.terms) (model_end s.args.join.end) _ _
-    (put-at t g _ (model_terms s.args.join.terms) _ _ (risen v) (omega (arith, a.if-limit-old.false, whole l.before.before.before.before.before.before.before.before, l.limit.ensures)) (slot-live t g _ _ (here v.before)))
-    _ a.attributes_after-attributes.ensures _ j.at_front.ensures j.join.ensures
+    (put-at t g _ (model_terms s.args.join.terms) _ _ (risen v) (omega (arith, c.if-limit-old.false, whole c.before.before.before.before.before.before.before.before, c.limit.ensures)) (slot-live t g _ _ (here v.before)))
+    _ c.attributes_after-attributes.ensures _ c.at_front.ensures c.join.ensures
 
 pub join_value_spec : {M : Type 1} → statement M
 join_value_spec =

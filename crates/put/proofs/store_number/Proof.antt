@@ -45,8 +45,7 @@ least Of192 = omega arith
 
 write-signed-requires : tie.Need-write_signed-len-requires
 write-signed-requires c κs =
-    let s = c in
-    simp (back_is s.ranges.z) (omega (arith, length-int_text s.args.z s.ranges.z))
+    simp (back_is c.ranges.z) (omega (arith, length-int_text c.args.z c.ranges.z))
 
 array-share-prefix-text : tie.Need-slice_bounds-text-end
 array-share-prefix-text c =
@@ -65,10 +64,9 @@ store-value-requires c κs =
 
 returns : tie.Need-returns
 returns c =
-    let v = c in
-    let w = v.before.before.before.before.before.before in
+    let w = c.before.before.before.before.before.before in
     let s = start w in
-    subst (λ (b : List ℕ). Puts (shape_of s.args.target) s.args.table.now v.store_value.new.table v.store_value.result (put_in s.args.table.now s.args.target s.args.key.now (model_terms s.args.terms) none b)) (text-is w) v.store_value.ensures
+    subst (λ (b : List ℕ). Puts (shape_of s.args.target) s.args.table.now c.store_value.new.table c.store_value.result (put_in s.args.table.now s.args.target s.args.key.now (model_terms s.args.terms) none b)) (text-is w) c.store_value.ensures
 
 pub store_number_spec : {M : Type 1} → statement M
 store_number_spec =

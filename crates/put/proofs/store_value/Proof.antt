@@ -31,11 +31,10 @@ returns c =
 
 returns-2 : tie.Need-returns-in_default-place
 returns-2 c =
-    let p = c in
-    let v = p.before.before in
+    let v = c.before.before in
     let s = start v.before in
     puts-refused _ s.args.table.now _ 17
-    (put_full s.args.table.now s.args.target _ (model_terms s.args.terms) _ _ (risen v) s.requires.1.1 (sym p.place.ensures ∙ ap checked_slot c.in_default-place.is))
+    (put_full s.args.table.now s.args.target _ (model_terms s.args.terms) _ _ (risen v) s.requires.1.1 (sym c.place.ensures ∙ ap checked_slot c.in_default-place.is))
 
 store-requires : tie.Need-store-requires
 store-requires c κs =
@@ -45,11 +44,10 @@ store-requires c κs =
 
 returns-3 : tie.Need-returns
 returns-3 c =
-    let a = c in
-    let o = a.before.before.before.before.before in
+    let o = c.before.before.before.before.before in
     let v = o.before.before in
     let s = start v.before in
-    puts-stored s.args.table.now _ s.args.target _ (model_terms s.args.terms) _ _ _ _ _ a.attributes_after-attributes.ensures
+    puts-stored s.args.table.now _ s.args.target _ (model_terms s.args.terms) _ _ _ _ _ c.attributes_after-attributes.ensures
     (put-at s.args.table.now s.args.target _ (model_terms s.args.terms) _ _ (risen v) s.requires.1.1 (taken o)) c.store.ensures
 
 pub store_value_spec : {M : Type 1} → statement M

@@ -36,29 +36,27 @@ module _ (v : View) (t : List ℕ) (time : ℕ) (c b : List ℕ) where
         reply = k.reply;
       })
 
-is-part : (c : tie.After-start) → let a = c.before.before.before.before.before.before.before.args in
-    IsPart form128 (model_view a.view) a.table.now c.start.given.0.0 c.start.given.0.1.0
+is-part : (c : tie.In-Bytes) → let a = c.args in
+    IsPart form128 (model_view a.view) a.table.now c.in-Bytes.start c.in-Bytes.end
 is-part c =
-    let a = c.before.before.before.before.before.before.before.args in
-    subst (Finds form128 a.view a.table.now) c.start.given.1 c.before.before.part_in.ensures
+    let a = c.args in
+    subst (Finds form128 a.view a.table.now) c.in-Bytes.is c.part_in.ensures
 
-returns : tie.Need-returns
+returns : tie.Need-returns-in-Refused
 returns c =
-    let l = c.before in
-    let a = l.before.before.before.before.before.before.before.args in
-    refused (model_view a.view) a.table.now a.time a.command.now a.reply.now (subst (Finds form128 a.view a.table.now) l.number.given.1 l.before.before.part_in.ensures)
+    let a = c.args in
+    refused (model_view a.view) a.table.now a.time a.command.now a.reply.now (subst (Finds form128 a.view a.table.now) c.in-Refused.is c.part_in.ensures)
 
-returns-2 : tie.Need-returns-2
+returns-2 : tie.Need-returns-in-Bytes
 returns-2 c =
-    let k = c.before.before.before.before in
-    let l = k.before.before.before.before in
-    let a = l.before.before.before.before.before.before.before.args in
-    on-part (model_view a.view) a.table.now a.time a.command.now a.reply.now (is-part l) k.call.ensures
+    let l = c.before.before.before.before.before.before.before in
+    let a = l.args in
+    on-part (model_view a.view) a.table.now a.time a.command.now a.reply.now (is-part l) c.call.ensures
 
-pub call-spec : {M : Type 1} → statement M
-call-spec =
+pub call_spec : {M : Type 1} → statement M
+call_spec =
     tie.close
     (tie.spec
     (λ c κs. search rules) (λ c. search rules) (λ c. search rules)
-    (λ c. (is-part c.before).low) (λ c. (is-part c.before).low) (λ c. (is-part c.before).high)
+    (λ c. (is-part c).low) (λ c. (is-part c).low) (λ c. (is-part c).high)
     (λ c κs. search rules) (λ c. search rules) returns (λ c. search rules) (λ c. search rules) returns-2)

@@ -12,47 +12,44 @@ use Rattle.shared.proofs.Places.{shown-shifted, shows-at, shows-table, hidden}
 use Rattle.shared.proofs.current_value.Statement.{statement}
 use Rattle.shared.proofs.current_value.Tie as tie
 
-is-part : (c : tie.After-start) → let a = c.before.before.before.before.before.args in
-    IsPart form128 (model_view a.view) a.table.now c.start.given.0.0 c.start.given.0.1.0
+is-part : (c : tie.In-Bytes) → let a = c.args in
+    IsPart form128 (model_view a.view) a.table.now c.in-Bytes.start c.in-Bytes.end
 is-part c =
-    let a = c.before.before.before.before.before.args in
-    subst (Finds form128 a.view a.table.now) c.start.given.1 c.before.before.part_in.ensures
+    let a = c.args in
+    subst (Finds form128 a.view a.table.now) c.in-Bytes.is c.part_in.ensures
 
-returns : tie.Need-returns
+returns : tie.Need-returns-in_default
 returns c =
-    let p = c.before.before.before in
-    let a = p.before.before.before.args in
-    shows-at (shown-refused form128 (model_view a.view) a.table.now (subst (Finds form128 a.view a.table.now) c.before.enum_told.given.1 p.part_in.ensures) a.time a.command.now) (record { bytes = refl; place = refl; shown = refl })
+    let a = c.args in
+    shows-at (shown-refused form128 (model_view a.view) a.table.now (subst (Finds form128 a.view a.table.now) c.in_default.is c.part_in.ensures) a.time a.command.now) (record { bytes = refl; place = refl; shown = refl })
 
 -- what the part shows, in the table
-shown : (c : tie.After-current-value) → let l = c.before.before.before.before in let a = l.before.before.before.before.before.args in
+shown : (c : tie.After-current_value-value) → let a = c.args in
     current_value_in form128 (model_view a.view) a.table.now a.time a.command.now
-    ≡ shifted l.start.given.0.0 (current_value form128 (part l.start.given.0.0 (l.start.given.0.1.0 - l.start.given.0.0) a.table.now) a.time a.command.now)
+    ≡ shifted c.in-Bytes.start (current_value form128 (part c.in-Bytes.start (c.in-Bytes.end - c.in-Bytes.start) a.table.now) a.time a.command.now)
 shown c =
-    let l = c.before.before.before.before in
-    let a = l.before.before.before.before.before.args in
+    let l = c.before.before.before in
+    let a = l.args in
     shown-shifted (model_view a.view) a.table.now (is-part l) a.time a.command.now
 
-returns-2 : tie.Need-returns-2
+returns-2 : tie.Need-returns-then-shown
 returns-2 c =
     let k = c.before in
-    let l = k.before.before.before.before in
-    let a = l.before.before.before.before.before.args in
+    let a = k.args in
     shows-at (shown k)
-    (shows-table l.start.given.0.0 (l.start.given.0.1.0 - l.start.given.0.0) refl refl a.time _ (inside _ a.time a.command.now) c.if1.true k.current-value.ensures)
+    (shows-table k.in-Bytes.start (k.in-Bytes.end - k.in-Bytes.start) refl refl a.time _ (inside _ a.time a.command.now) c.if-shown.true k.current_value-value.ensures)
 
-returns-3 : tie.Need-returns-3
+returns-3 : tie.Need-returns
 returns-3 c =
-    let k = c.before.before in
-    let l = k.before.before.before.before in
-    let a = l.before.before.before.before.before.args in
-    let s = current_value form128 (part l.start.given.0.0 (l.start.given.0.1.0 - l.start.given.0.0) a.table.now) a.time a.command.now in
-    shows-at (shown k ∙ hidden l.start.given.0.0 s (sym k.current-value.ensures.shown ∙ c.before.if1.false)) (record { bytes = refl; place = refl; shown = c.before.if1.false })
+    let k = c.before in
+    let a = k.args in
+    let s = current_value form128 (part k.in-Bytes.start (k.in-Bytes.end - k.in-Bytes.start) a.table.now) a.time a.command.now in
+    shows-at (shown k ∙ hidden k.in-Bytes.start s (sym k.current_value-value.ensures.shown ∙ c.if-shown.false)) (record { bytes = refl; place = refl; shown = c.if-shown.false })
 
-pub current-value-spec : {M : Type 1} → statement M
-current-value-spec =
+pub current_value_spec : {M : Type 1} → statement M
+current_value_spec =
     tie.close
     (tie.spec
     (λ c κs. search rules) (λ c. search rules) (λ c. search rules) (λ c. search rules) returns
-    (λ c. (is-part c.before).low) (λ c. (is-part c.before).low) (λ c. (is-part c.before).high)
+    (λ c. (is-part c).low) (λ c. (is-part c).low) (λ c. (is-part c).high)
     (λ c κs. search rules) returns-2 (λ c. search rules) returns-3)

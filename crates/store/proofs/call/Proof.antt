@@ -6,12 +6,12 @@ use Rattle.integrity.proofs.Arrays.{fresh}
 use Rattle.store.proofs.call.Statement.{statement}
 use Rattle.store.proofs.call.Tie as tie
 
-pub call-spec : {M : Type 1} → statement M
-call-spec =
+pub call_spec : {M : Type 1} → statement M
+call_spec =
     tie.close
     (tie.spec
     (λ c. search rules) (λ c. search rules)
-    (λ c κs. fresh form128 c.before.before.before.before.before.before.before.before.args.table.now 128 16 (omega arith) (λ h. omega arith))
+    (λ c κs. fresh form128 c.args.table.now 128 16 (omega arith) (λ h. omega arith))
     (λ c. search rules) (λ c. search rules) (λ c. search rules) (λ c. search rules) (λ c. search rules)
-    (λ c κs. fresh form128 c.before.before.before.before.before.before.before.before.args.table.now 2048 256 (omega arith) (λ h. h))
+    (λ c κs. fresh form128 c.args.table.now 2048 256 (omega arith) (λ h. h))
     (λ c. search rules) (λ c. search rules) (λ c. search rules))

@@ -97,4 +97,4 @@ subcommands_in_spec =
     (λ c. search rules)
     (λ c. search rules)
     (λ c. search rules)
-    (λ c. let e = c in let l = e.before.before.before.before.before in all_read l.loop-i.invariant (past l) e.if-wrong.false _))
+    (λ c. let l = c.before.before.before.before.before in all_read l.loop-i.invariant (past l) c.if-wrong.false _))

@@ -29,16 +29,13 @@ mode-is c e = ap checked_mode_named (sym e) ∙ (c.mode_of.ensures ∙ ap (λ (w
 
 returns : tie.Need-returns-then-count-at
 returns c =
-    let b = c in
-    ap (λ (w : List ℕ). look (uppers w) modes) (get_or-eq_default (words_of b.args.s.now) [] (omega (arith, c.if-count-at.true, b.requires.1)))
+    ap (λ (w : List ℕ). look (uppers w) modes) (get_or-eq_default (words_of c.args.s.now) [] (omega (arith, c.if-count-at.true, c.requires.1)))
 
 returns-3 : tie.Need-returns-in-Known
 returns-3 c =
-    let m = c in
-    let f = m.before in
-    let e = f in
-    let b = e.before.before.before.before in
-    (refl, omega (arith, e.if-count-at.false, b.requires.1), given_is 8 (some (model_mode m.in-Known.mode)) (looked b) (mode-is f m.in-Known.is))
+    let f = c.before in
+    let b = f.before.before.before.before in
+    (refl, omega (arith, f.if-count-at.false, b.requires.1), given_is 8 (some (model_mode c.in-Known.mode)) (looked b) (mode-is f c.in-Known.is))
 
 pub take_mode_spec : {M : Type 1} → statement M
 take_mode_spec =

@@ -49,10 +49,9 @@ sub_is c e =
 
 returns-2 : tie.Need-returns-in-Sub
 returns-2 c =
-    let s = c in
-    let f = s.before in
+    let f = c.before in
     let e = f.before.before.before.before in
-    (omega (arith, e.arity-arity.ensures), there e, given_is 9 (some (model_sub s.in-Sub.sub ∷ [])) (said e) (sub_is f s.in-Sub.is))
+    (omega (arith, e.arity-arity.ensures), there e, given_is 9 (some (model_sub c.in-Sub.sub ∷ [])) (said e) (sub_is f c.in-Sub.is))
 
 returns-3 : tie.Need-returns-in-Wrong
 returns-3 c =

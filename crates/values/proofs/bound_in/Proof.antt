@@ -28,18 +28,16 @@ bound z = ok (some z)
 said : (c : tie.After-read_signed) {x : Signed} → c.read_signed.result ≡ x → let a = c.args in
     (checked_signed x >>= bound) ≡ bound_in (model_given (words_of a.s.now) a.g)
 said c e =
-    let t = c in
-    let a = t.args in
+    let a = c.args in
     let word = word_at a.g.word (words_of a.s.now) in
     ap (λ (x : Checked ℤ). x >>= bound)
     (signed-checked (read_signed word) (c.read_signed.ensures ∙ ap (λ (w : List ℕ). signed_from (read_signed w)) c.number_word.ensures) e)
-    ∙ sym (of-given bound_in (words_of a.s.now) a.g t.if-g.true)
+    ∙ sym (of-given bound_in (words_of a.s.now) a.g c.if-g.true)
 
 returns-2 : tie.Need-returns-then-g
 returns-2 c =
-    let z = c in
-    let fits : SFits w64 z.in-Value.z = record { sfits = c.in-Value.known_told-1-own.given.0.1 } in
-    ap bound (back_is fits) ∙ said z.before z.in-Value.is
+    let fits : SFits w64 c.in-Value.z = record { sfits = c.in-Value.known_told-1-own.given.0.1 } in
+    ap bound (back_is fits) ∙ said c.before c.in-Value.is
 
 pub bound_in_spec : {M : Type 1} → statement M
 bound_in_spec =

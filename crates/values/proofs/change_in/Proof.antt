@@ -22,12 +22,11 @@ use Rattle.values.proofs.change_in.Tie as tie
 asked : (c : tie.After-read_version) {x : Natural} → c.read_version.result ≡ x → let a = c.args in
     (checked_natural x >>= λ n. ok (change_by (model_opt a.g.opt) n)) ≡ change_in (model_given (words_of a.s.now) a.g)
 asked c e =
-    let t = c in
-    let a = t.args in
+    let a = c.args in
     let word = word_at a.g.word (words_of a.s.now) in
     ap (λ (x : Checked ℕ). x >>= λ n. ok (change_by (model_opt a.g.opt) n))
     (natural-checked (read_version word) (c.read_version.ensures ∙ ap (λ (w : List ℕ). natural_from (read_version w)) c.number_word.ensures) e)
-    ∙ sym (of-given change_in (words_of a.s.now) a.g t.if-g.true)
+    ∙ sym (of-given change_in (words_of a.s.now) a.g c.if-g.true)
 
 pub change_in_spec : {M : Type 1} → statement M
 change_in_spec =

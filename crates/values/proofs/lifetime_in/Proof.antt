@@ -12,11 +12,10 @@ use Rattle.values.proofs.lifetime_in.Tie as tie
 
 returns : tie.Need-returns-then-g
 returns c =
-    let t = c in
-    let a = t.args in
+    let a = c.args in
     c.lifetime_by.ensures
     ∙ (ap (λ (w : List ℕ). lifetime_by (model_opt a.g.opt) w) c.number_word.ensures
-    ∙ sym (of-given lifetime_in (words_of a.s.now) a.g t.if-g.true))
+    ∙ sym (of-given lifetime_in (words_of a.s.now) a.g c.if-g.true))
 
 returns-2 : tie.Need-returns
 returns-2 c = let a = c.args in sym (of_none lifetime_in (words_of a.s.now) a.g c.if-g.false)

@@ -65,23 +65,18 @@ refuses r n e h = ap (λ (n : ℕ). checked_by n (model_said r.said)) e ∙ sym 
 
 returns-2 : tie.Need-returns-then-ten-ne0
 returns-2 c = λ gs t.
-    let i = c in
-    refuses c.refused-then-ten-ne0.result (ten i.before.before gs) c.refused-then-ten-ne0.ensures (omega (arith, i.if-ten-ne0.true))
-    ∙ eleven i.before.before gs t (refused-is (ten i.before.before gs) _ (omega (arith, i.if-ten-ne0.true))) refl
+    refuses c.refused-then-ten-ne0.result (ten c.before.before gs) c.refused-then-ten-ne0.ensures (omega (arith, c.if-ten-ne0.true))
+    ∙ eleven c.before.before gs t (refused-is (ten c.before.before gs) _ (omega (arith, c.if-ten-ne0.true))) refl
 
 returns-3 : tie.Need-returns-then-eleven-ne0
 returns-3 c = λ gs t.
-    let j = c in
-    let i = j in
-    refuses c.refused-then-eleven-ne0.result i.bounds_refusal-eleven.result c.refused-then-eleven-ne0.ensures (omega (arith, j.if-eleven-ne0.true))
-    ∙ eleven i.before.before.before gs t (passed_is (ten i.before.before.before gs) _ (omega (arith, i.if-ten-ne0.false))) (refused-is i.bounds_refusal-eleven.result _ (omega (arith, j.if-eleven-ne0.true)))
+    refuses c.refused-then-eleven-ne0.result c.bounds_refusal-eleven.result c.refused-then-eleven-ne0.ensures (omega (arith, c.if-eleven-ne0.true))
+    ∙ eleven c.before.before.before gs t (passed_is (ten c.before.before.before gs) _ (omega (arith, c.if-ten-ne0.false))) (refused-is c.bounds_refusal-eleven.result _ (omega (arith, c.if-eleven-ne0.true)))
 
 returns-4 : tie.Need-returns
 returns-4 c = λ gs t.
-    let j = c in
-    let i = j in
     ap (λ (x : Said). ok x) (c.said_with.ensures _ gs t)
-    ∙ eleven i.before.before.before gs t (passed_is (ten i.before.before.before gs) _ (omega (arith, i.if-ten-ne0.false))) (passed_is i.bounds_refusal-eleven.result _ (omega (arith, j.if-eleven-ne0.false)))
+    ∙ eleven c.before.before.before gs t (passed_is (ten c.before.before.before gs) _ (omega (arith, c.if-ten-ne0.false))) (passed_is c.bounds_refusal-eleven.result _ (omega (arith, c.if-eleven-ne0.false)))
 
 pub said_in_spec : {M : Type 1} → statement M
 said_in_spec =

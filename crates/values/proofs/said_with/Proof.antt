@@ -11,11 +11,10 @@ use Rattle.values.proofs.said_with.Tie as tie
 
 returns : tie.Need-returns
 returns c = λ ws gs t.
-    let p = c in
-    let a = p.args in
+    let a = c.args in
     let x = model_numbers a.x in
     λ i. record {
-      terms = record { presence = (p.presence_in-presence.ensures ws ∙ ap presence_in (sym (t.picks nx_or_xx))) i; change = x.change; expire = model_expire a.expire };
+      terms = record { presence = (c.presence_in-presence.ensures ws ∙ ap presence_in (sym (t.picks nx_or_xx))) i; change = x.change; expire = model_expire a.expire };
       flags = x.flags;
       min = x.min;
       max = x.max;

@@ -22,17 +22,15 @@ module _ (c : tie.Start) where
 
 returns : tie.Need-returns-in_default
 returns c =
-    let r = c in
-    let b = r.before.before.before in
-    ap (said b) (signed-checked (read_signed b.args.w.now) r.read_signed.ensures c.in_default.is)
+    let b = c.before.before.before in
+    ap (said b) (signed-checked (read_signed b.args.w.now) c.read_signed.ensures c.in_default.is)
 
 returns-2 : tie.Need-returns
 returns-2 c =
-    let n = c in
-    let r = n in
+    let r = c in
     let b = r.before.before.before in
-    let fits : SFits w64 n.in-Value.number = record { sfits = c.in-Value.known_told-1-own.given.0.1 } in
-    ap (say b) (back_is fits) ∙ ap (said b) (signed-checked (read_signed b.args.w.now) r.read_signed.ensures n.in-Value.is)
+    let fits : SFits w64 c.in-Value.number = record { sfits = c.in-Value.known_told-1-own.given.0.1 } in
+    ap (say b) (back_is fits) ∙ ap (said b) (signed-checked (read_signed b.args.w.now) r.read_signed.ensures c.in-Value.is)
 
 pub until_spec : {M : Type 1} → statement M
 until_spec = tie.close (tie.spec (λ c κs. search rules) (λ c. search rules) (λ c. search rules) returns returns-2)

@@ -14,59 +14,50 @@ use Rattle.write.proofs.Writing.{finish-in, does-as, write_new, excas-own}
 use Rattle.write.proofs.excas.Statement.{statement}
 use Rattle.write.proofs.excas.Tie as tie
 
-abbrev begun : tie.After-value → tie.Start
-begun c = c.before.before.before.before.before.before.before.before.before.before.before.before.before
+abbrev begun : tie.After-value-old → tie.Start
+begun c = c.before.before.before.before.before.before.before.before.before.before
 
 -- the value that is shown is the live record's
-value-is : (c : tie.After-value) → c.value.result.now ≡ (record_in (shape_of (begun c).args.target) (begun c).args.table.now c.before.before.before.before.before.before.before.found.given.0.0).value
-value-is c = c.value.ensures ∙ ap (λ (r : Record). r.value) c.before.record-at.ensures.is
+value-is : (c : tie.After-value-old) → c.value-old.result.now ≡ (record_in (shape_of (begun c).args.target) (begun c).args.table.now c.in-Live.slot).value
+value-is c = c.value-old.ensures ∙ ap (λ (r : Record). r.value) c.record_at.ensures.is
 
-minus-one-requires : tie.Need-minus-one-requires
+minus-one-requires : tie.Need-minus_one-requires
 minus-one-requires c κs =
-    let s = c.before.before.before.before.before.before in
-    minus_one-in s.requires.0.room
+    minus_one-in c.requires.0.room
 
-returns : tie.Need-returns
+returns : tie.Need-returns-in_default
 returns c =
-    let s = c.before.before.before.before.before.before.before.before.before in
-    does-answer _ s.args.table.now _ _ _ _ (excas-absent s.args.table.now s.args.target _ _ c.before.before.before.before.match.keys2 _) c.before.before.minus_one.ensures
+    does-answer _ c.args.table.now _ _ _ _ (excas-absent c.args.table.now c.args.target _ _ c.in_default.in_default-own.keys2 _) c.minus_one.ensures
 
-record-at-requires : tie.Need-record-at-requires
+record-at-requires : tie.Need-record_at-requires
 record-at-requires c κs =
-    let s = c.before.before.before.before.before.before.before.before.before.before.before in
-    (s.requires.0.under.sound.reads, in-use-here (shape_of s.args.target) s.args.table.now _ _ c.before.before.before.before.before.found.given.1 s.requires.0.under.sound.at)
+    (c.requires.0.under.sound.reads, in-use-here (shape_of c.args.target) c.args.table.now _ _ c.in-Live.is c.requires.0.under.sound.at)
 
 stale-requires : tie.Need-stale-requires
 stale-requires c κs =
-    let s = c.before.before.before.before.before.before.before.before.before.before.before.before.before.before in
-    let h = live_here_lem (shape_of s.args.target) s.args.table.now _ _ c.before.before.before.before.before.before.before.before.found.given.1 s.requires.0.under.sound.at in
-    (stale-in s.requires.0.room _ _ h.range (value-is c.before), h.range.version-to)
+    let h = live_here_lem (shape_of c.args.target) c.args.table.now _ _ c.in-Live.is c.requires.0.under.sound.at in
+    (stale-in c.requires.0.room _ _ h.range (value-is c.before), h.range.version-to)
 
-returns-2 : tie.Need-returns-2
+returns-2 : tie.Need-returns-then-swap-attributes
 returns-2 c =
-    let s = c.before.before.before.before.before.before.before.before.before.before.before.before.before.before.before.before.before in
-    let h = c.before.before.before.before.before.before.before.before.before.before.before.found.given in
-    does-answer _ s.args.table.now _ _ _ _ (excas-live s.args.table.now s.args.target _ _ _ _ h.1 s.args.swap ∙ rw (ne_eqb _ _ c.before.before.before.before.before.before.before.if1.true))
-    (replied-stale (live_here s.args.table.now s.args.target _ h.0.1.0) _ (value-is c.before.before.before.before) c.before.before.stale.ensures)
+    does-answer _ c.args.table.now _ _ _ _ (excas-live c.args.table.now c.args.target _ _ _ _ c.in-Live.is c.args.swap ∙ rw (ne_eqb _ _ c.if-swap-attributes.true))
+    (replied-stale (live_here c.args.table.now c.args.target _ c.in-Live.attributes) _ (value-is c.before.before.before.before) c.stale.ensures)
 
-store-value-requires : tie.Need-store-value-requires
+store-value-requires : tie.Need-store_value-stored-requires
 store-value-requires c κs =
-    let s = c.before.before.before.before.before.before.before.before.before.before.before in
-    (s.requires.0.under.sound, (s.requires.0.key, s.requires.1))
+    (c.requires.0.under.sound, (c.requires.0.key, c.requires.1))
 
 finish-requires : tie.Need-finish-requires
 finish-requires c κs =
-    let s = c.before.before.before.before.before.before.before.before.before.before.before.before.before.before.before in
-    finish-in s.requires.0 (swapping (model_expire s.args.swap.expire)) _ _ tt c.before.before.before.store-value.ensures
+    finish-in c.requires.0 (swapping (model_expire c.args.swap.expire)) _ _ tt c.store_value-stored.ensures
 
-returns-3 : tie.Need-returns-3
+returns-3 : tie.Need-returns
 returns-3 c =
-    let s = c.before.before.before.before.before.before.before.before.before.before.before.before.before.before.before.before.before.before in
-    does-as (excas-own s.args.table.now s.args.target _ _ _ _ c.before.before.before.before.before.before.before.before.before.before.before.before.found.given.1 s.args.swap c.before.before.before.before.before.before.before.before.if1.false ∙ write_new s.args.table.now s.args.target _ _ _ _ _ refl)
-    (c.before.before.finish.ensures.does _ s.args.table.now _ _ c.before.before.before.before.before.before.store-value.ensures)
+    does-as (excas-own c.args.table.now c.args.target _ _ _ _ c.in-Live.is c.args.swap c.if-swap-attributes.false ∙ write_new c.args.table.now c.args.target _ _ _ _ _ refl)
+    (c.finish.ensures.does _ c.args.table.now _ _ c.store_value-stored.ensures)
 
-pub excas-spec : {M : Type 1} → statement M
-excas-spec =
+pub excas_spec : {M : Type 1} → statement M
+excas_spec =
     tie.close
     (tie.spec
     (λ c. search rules)

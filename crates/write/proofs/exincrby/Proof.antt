@@ -28,7 +28,7 @@ abbrev start : tie.After-admit → tie.Start
 start c = c.before.before.before.before.before
 
 abbrev begun : tie.After-total → tie.Start
-begun c = start c.before.before.before.before
+begun c = start c.before.before
 
 let_by : (c : tie.After-admit) → let a = (start c).args in LetBy c.admit.result (count_in a.table.now a.target a.key.now a.increment) (act_in a.table.now a.target a.key.now [] (Exincrby a.increment))
 let_by c = let a = (start c).args in exincrby-by a.table.now a.target a.key.now [] a.increment c.admit.ensures
@@ -38,49 +38,45 @@ summed : (c : tie.After-total) → total (model_increment (begun c).args.increme
 summed c = sym c.total.ensures
 
 -- the sum is a number of 64 bits
-whole : (c : tie.After-known-told2) → SFits w64 c.before.z.given.0.0
-whole c = record { sfits = c.known-told2.given.0.1 }
+whole : (c : tie.In-Value) → SFits w64 c.in-Value.z
+whole c = record { sfits = c.in-Value.known_told-in-Value-1-own.given.0.1 }
 
-error-requires-2 : tie.Need-error-requires-2
+error-requires-2 : tie.Need-error-requires-in-Refused
 error-requires-2 c κs =
-    let u = c.before.before.before.before in
+    let u = c.before.before in
     let s = begun u in
-    let q = subst (Comes Executing Signed) (summed u ∙ ap checked_counted c.before.before.number.given.1) (total-signed (model_increment s.args.increment) (value_in s.args.table.now s.args.target)) in
-    (error-in s.pre.0.room c.before.before.number.given.0.0, omega (arith, q.least), q.most)
+    let q = subst (Comes Executing Signed) (summed u ∙ ap checked_counted c.in-Refused.is) (total-signed (model_increment s.args.increment) (value_in s.args.table.now s.args.target)) in
+    (error-in s.requires.0.room c.in-Refused.number, omega (arith, q.least), q.most)
 
-store-number-requires : tie.Need-store-number-requires
+store-number-requires : tie.Need-store_number-stored-requires
 store-number-requires c κs =
-    let s = c.before.before.before.before.before.before.before.before.before.before.before.before.before in
-    (s.requires.0.under.sound, s.requires.0.key)
+    (c.requires.0.under.sound, c.requires.0.key)
 
 finish-requires : tie.Need-finish-requires
 finish-requires c κs =
-    let s = c.before.before.before.before.before.before.before.before.before.before.before.before.before.before.before.before.before in
-    finish-in s.requires.0 (model_terms s.args.increment.terms) _ _ s.requires.1 c.before.before.before.store-number.ensures
+    finish-in c.requires.0 (model_terms c.args.increment.terms) _ _ c.requires.1 c.store_number-stored.ensures
 
-returns-3 : tie.Need-returns-3
+returns-3 : tie.Need-returns-in-Refused
 returns-3 c =
-    let u = c.before.before.before.before.before.before.before in
+    let u = c.before.before.before.before.before in
     let s = begun u in
-    does-refuse _ s.args.table.now _ _ _ _ ((let_by u.before.before.before.before).by u.before.before.enum-told3.given.1 ∙ write-none s.args.table.now s.args.target _ _ _ (counted (model_increment s.args.increment)) _ (counted-refused s.args.increment _ (summed u ∙ ap checked_counted c.before.before.before.before.before.number.given.1))) c.before.before.error2.ensures
+    does-refuse _ s.args.table.now _ _ _ _ ((let_by u.before.before).by u.in-Granted.is ∙ write-none s.args.table.now s.args.target _ _ _ (counted (model_increment s.args.increment)) _ (counted-refused s.args.increment _ (summed u ∙ ap checked_counted c.in-Refused.is))) c.error-in-Refused.ensures
 
-returns-4 : tie.Need-returns-4
+returns-4 : tie.Need-returns-in-Value
 returns-4 c =
-    let v = c.before.before.before.before.before.before in
-    let z = c.before.before.before.before.before.before.before.before.before in
-    let u = z.before.before in
+    let u = c.before.before.before.before.before.before.before.before.before in
     let s = begun u in
-    does-as ((let_by u.before.before.before.before).by u.before.before.enum-told3.given.1 ∙ write_new s.args.table.now s.args.target _ _ _ (counted (model_increment s.args.increment)) (new_of s.args.increment z.z.given.0.0) (counted_is s.args.increment _ (summed u ∙ ap checked_counted z.z.given.1)))
-    ((subst (λ (y : ℤ). Finishes s.args.reply.now c.before.before.finish.new.1.1.0 v.store-number.result (count_reply s.args.increment.with_version y) c.before.before.finish.result) (back_is (whole v.before.before)) c.before.before.finish.ensures).does _ s.args.table.now _ _
-    (subst (λ (y : ℤ). Puts (shape_of s.args.target) s.args.table.now v.store-number.new.0 v.store-number.result (put_in s.args.table.now s.args.target s.args.key.now (model_terms s.args.increment.terms) none (int_text y))) (back_is (whole v.before.before)) v.store-number.ensures))
+    does-as ((let_by u.before.before).by u.in-Granted.is ∙ write_new s.args.table.now s.args.target _ _ _ (counted (model_increment s.args.increment)) (new_of s.args.increment c.in-Value.z) (counted_is s.args.increment _ (summed u ∙ ap checked_counted c.in-Value.is)))
+    ((subst (λ (y : ℤ). Finishes s.args.reply.now c.finish.new.reply c.store_number-stored.result (count_reply s.args.increment.with_version y) c.finish.result) (back_is (whole c.before.before.before.before.before.before.before.before)) c.finish.ensures).does _ s.args.table.now _ _
+    (subst (λ (y : ℤ). Puts (shape_of s.args.target) s.args.table.now c.store_number-stored.new.table c.store_number-stored.result (put_in s.args.table.now s.args.target s.args.key.now (model_terms s.args.increment.terms) none (int_text y))) (back_is (whole c.before.before.before.before.before.before.before.before)) c.store_number-stored.ensures))
 
-pub exincrby-spec : {M : Type 1} → statement M
-exincrby-spec =
+pub exincrby_spec : {M : Type 1} → statement M
+exincrby_spec =
     tie.close
     (tie.spec
-    (λ c κs. search rules) (λ c. search rules) (λ c κs. nil-in (start c.before.before.before).requires.0.room)
-    (λ c. search rules) (λ c κs. (error-in (start c.before.before.before).requires.0.room 12, omega arith, omega arith))
+    (λ c κs. search rules) (λ c. search rules) (λ c κs. nil-in (start c.before.before).requires.0.room)
+    (λ c. search rules) (λ c κs. (error-in (start c.before.before).requires.0.room 12, omega arith, omega arith))
     (λ c. search rules) (λ c κs. search rules) (λ c. search rules) error-requires-2 (λ c. search rules) store-number-requires finish-requires
-    (λ c. search rules) (λ c. let d = c.before.before.before.before in turned-nil (let_by d.before.before) _ d.enum_told.given.1 c.before.before.nil.ensures)
-    (λ c. search rules) (λ c. let d = c.before.before.before.before in turned-stale (let_by d.before.before) _ d.enum-told2.given.1 c.before.before.error.ensures)
+    (λ c. search rules) (λ c. turned-nil (let_by c.before.before.before.before.before) _ c.in-Nil.is c.nil.ensures)
+    (λ c. search rules) (λ c. turned-stale (let_by c.before.before.before.before.before) _ c.in-Stale.is c.error.ensures)
     (λ c. search rules) (λ c. search rules) returns-3 (λ c. search rules) (λ c. search rules) returns-4)

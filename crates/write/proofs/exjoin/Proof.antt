@@ -17,19 +17,19 @@ let_by : (c : tie.After-admit) → let a = (start c).args in
     LetBy c.admit.result (join_in a.table.now a.target a.key.now a.value.now a.join) (act_in a.table.now a.target a.key.now a.value.now (Exjoin a.join))
 let_by c = let a = (start c).args in exjoin-by a.table.now a.target a.key.now a.value.now a.join c.admit.ensures
 
-join-value-requires : tie.Need-join-value-requires
-join-value-requires c κs = let r = (start c.before.before.before).requires in (r.0.under, (r.0.key, r.1.0))
+join-value-requires : tie.Need-join_value-stored-requires
+join-value-requires c κs = let r = (start c.before.before).requires in (r.0.under, (r.0.key, r.1.0))
 
-pub exjoin-spec : {M : Type 1} → statement M
-exjoin-spec =
+pub exjoin_spec : {M : Type 1} → statement M
+exjoin_spec =
     tie.close
     (tie.spec
-    (λ c κs. search rules) (λ c. search rules) (λ c κs. nil-in (start c.before.before.before).requires.0.room)
-    (λ c. search rules) (λ c κs. (error-in (start c.before.before.before).requires.0.room 12, omega arith, omega arith)) (λ c. search rules)
+    (λ c κs. search rules) (λ c. search rules) (λ c κs. nil-in (start c.before.before).requires.0.room)
+    (λ c. search rules) (λ c κs. (error-in (start c.before.before).requires.0.room 12, omega arith, omega arith)) (λ c. search rules)
     join-value-requires
-    (λ c κs. let p = c.before.before.before in let s = start p.before.before.before.before in finish-in s.pre.0 (model_terms s.args.join.terms) _ _ s.pre.1.1 p.join-value.ensures)
-    (λ c. search rules) (λ c. let d = c.before.before.before.before in turned-nil (let_by d.before.before) _ d.enum_told.given.1 c.before.before.nil.ensures)
-    (λ c. search rules) (λ c. let d = c.before.before.before.before in turned-stale (let_by d.before.before) _ d.enum-told2.given.1 c.before.before.error.ensures)
+    (λ c κs. let s = start c.before.before.before.before.before.before in finish-in s.requires.0 (model_terms s.args.join.terms) _ _ s.requires.1.1 c.join_value-stored.ensures)
+    (λ c. search rules) (λ c. turned-nil (let_by c.before.before.before.before.before) _ c.in-Nil.is c.nil.ensures)
+    (λ c. search rules) (λ c. turned-stale (let_by c.before.before.before.before.before) _ c.in-Stale.is c.error.ensures)
     (λ c. search rules) (λ c. search rules)
-    (λ c. let p = c.before.before.before.before.before.before in let d = p.before.before in let a = (start d.before.before).args in
-    granted (let_by d.before.before) _ _ d.enum-told3.given.1 (write_new a.table.now a.target _ _ _ _ _ refl) p.join-value.ensures c.before.before.finish.ensures))
+    (λ c. let a = (start c.before.before.before.before.before.before.before.before.before).args in
+    granted (let_by c.before.before.before.before.before.before.before.before.before) _ _ c.in-Granted.is (write_new a.table.now a.target _ _ _ _ _ refl) c.join_value-stored.ensures c.finish.ensures))

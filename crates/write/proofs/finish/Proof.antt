@@ -10,24 +10,20 @@ use Rattle.write.proofs.finish.Tie as tie
 
 error-requires : tie.Need-error-requires
 error-requires c κs =
-    let s = c.before.before.before.before.before in
-    let h = subst StoredOk c.before.before.stored.given.1 s.requires.1 in
-    (error-in s.requires.0.room c.before.before.stored.given.0.0, h.0, h.1)
+    let h = subst StoredOk c.in-Refused.is c.requires.1 in
+    (error-in c.requires.0.room c.in-Refused.number, h.0, h.1)
 
-reply-success-requires : tie.Need-reply-success-requires
+reply-success-requires : tie.Need-reply_success-requires
 reply-success-requires c κs =
-    let s = c.before.before.before.before.before in
-    (s.requires.0, subst StoredOk c.before.before.stored2.given.1 s.requires.1)
+    (c.requires.0, subst StoredOk c.in-Version.is c.requires.1)
 
-returns : tie.Need-returns
+returns : tie.Need-returns-in-Refused
 returns c =
-    let s = c.before.before.before.before.before.before.before.before in
-    subst (λ (r : Stored). Finishes s.args.reply.now c.before.before.error.new.0 r (reply_of s.args.success) c.before.before.error.result) (sym c.before.before.before.before.before.stored.given.1) (finishes-refused c.before.before.error.ensures)
+    subst (λ (r : Stored). Finishes c.args.reply.now c.error.new.reply r (reply_of c.args.success) c.error.result) (sym c.in-Refused.is) (finishes-refused c.error.ensures)
 
-returns-2 : tie.Need-returns-2
+returns-2 : tie.Need-returns-in-Version
 returns-2 c =
-    let s = c.before.before.before.before.before.before.before.before in
-    subst (λ (r : Stored). Finishes s.args.reply.now c.before.before.reply-success.new.0 r (reply_of s.args.success) c.before.before.reply-success.result) (sym c.before.before.before.before.before.stored2.given.1) (finishes-stored (reply_of s.args.success) c.before.before.reply-success.ensures)
+    subst (λ (r : Stored). Finishes c.args.reply.now c.reply_success.new.reply r (reply_of c.args.success) c.reply_success.result) (sym c.in-Version.is) (finishes-stored (reply_of c.args.success) c.reply_success.ensures)
 
 pub finish_spec : {M : Type 1} → statement M
 finish_spec =

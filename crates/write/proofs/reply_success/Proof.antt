@@ -14,46 +14,40 @@ use Rattle.write.proofs.reply_success.Statement.{statement}
 use Rattle.write.proofs.reply_success.Tie as tie
 
 -- the number that was counted is one of 64 bits
-whole : (c : tie.After-known-told2) → SFits w64 c.before.success2.given.0.1.0
-whole c = record { sfits = c.known-told2.given.1.0.1 }
+whole : (c : tie.In-Count) → SFits w64 c.in-Count.z
+whole c = record { sfits = c.in-Count.known_told-in-Count-1-own.given.1.0.1 }
 
 set-requires : tie.Need-set-requires
 set-requires c κs =
-    let s = c.before.before.before.before.before in
-    (set-in s.requires.0.room c.before.before.success.given.0.0 _ s.requires.1, s.requires.1)
+    (set-in c.requires.0.room c.in-Set.with_version _ c.requires.1, c.requires.1)
 
 count-requires : tie.Need-count-requires
 count-requires c κs =
-    let s = c.before.before.before.before.before in
-    (count-in s.requires.0.room c.before.before.success2.given.0.0 _ _ (ap is_signed (back_is (whole c.before)) ∙ signed-fits _ (whole c.before)) s.requires.1, s.requires.1)
+    (count-in c.requires.0.room c.in-Count.with_version _ _ (ap is_signed (back_is (whole c.before)) ∙ signed-fits _ (whole c.before)) c.requires.1, c.requires.1)
 
 swap-requires : tie.Need-swap-requires
 swap-requires c κs =
-    let s = c.before.before.before.before in
-    (swap-in s.requires.0.room _ s.requires.1, s.requires.1)
+    (swap-in c.requires.0.room _ c.requires.1, c.requires.1)
 
 number-requires : tie.Need-number-requires
 number-requires c κs =
-    let s = c.before.before.before.before in
-    (number_in s.requires.0.room _ s.requires.1, s.requires.1)
+    (number_in c.requires.0.room _ c.requires.1, c.requires.1)
 
-returns : tie.Need-returns
-returns c = rw c.before.before.before.before.before.success.given.1 c.before.before.set.ensures
+returns : tie.Need-returns-in-Set
+returns c = rw c.in-Set.is c.set.ensures
 
-returns-2 : tie.Need-returns-2
+returns-2 : tie.Need-returns-in-Count
 returns-2 c =
-    let s = c.before.before.before.before.before.before.before.before in
-    let x = c.before.before.before.before.before.success2.given in
-    rw x.1 (subst (λ (z : ℤ). Replied 0 (count_reply x.0.0 z s.args.version) s.args.reply.now c.before.before.count.new.0 c.before.before.count.result) (back_is (whole c.before.before.before.before)) c.before.before.count.ensures)
+    rw c.in-Count.is (subst (λ (z : ℤ). Replied 0 (count_reply c.in-Count.with_version z c.args.version) c.args.reply.now c.count.new.reply c.count.result) (back_is (whole c.before.before.before.before)) c.count.ensures)
 
-returns-3 : tie.Need-returns-3
-returns-3 c = rw c.before.before.before.before.enum_told.given.1 c.before.before.swap.ensures
+returns-3 : tie.Need-returns-in-Swap
+returns-3 c = rw c.in-Swap.is c.swap.ensures
 
-returns-4 : tie.Need-returns-4
-returns-4 c = rw c.before.before.before.before.enum-told2.given.1 c.before.before.number.ensures
+returns-4 : tie.Need-returns-in-Join
+returns-4 c = rw c.in-Join.is c.number.ensures
 
-pub reply-success-spec : {M : Type 1} → statement M
-reply-success-spec =
+pub reply_success_spec : {M : Type 1} → statement M
+reply_success_spec =
     tie.close
     (tie.spec
     (λ c. search rules)

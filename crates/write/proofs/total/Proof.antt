@@ -11,24 +11,21 @@ use Rattle.put.proofs.Joining.{value-live}
 use Rattle.write.proofs.total.Statement.{statement}
 use Rattle.write.proofs.total.Tie as tie
 
-returns : tie.Need-returns
+returns : tie.Need-returns-in_default
 returns c =
-    let s = c.before.before.before in
-    c.sum-absent.ensures ∙ ap (total (model_increment s.args.increment)) (ap (map (λ (r : Record). r.value)) (sym (none-live (shape_of s.args.target) s.args.table.now s.args.target.found c.before.match.keys2)))
+    c.sum_absent.ensures ∙ ap (total (model_increment c.args.increment)) (ap (map (λ (r : Record). r.value)) (sym (none-live (shape_of c.args.target) c.args.table.now c.args.target.found c.in_default.in_default-own.keys2)))
 
-record-at-requires : tie.Need-record-at-requires
+record-at-requires : tie.Need-record_at-requires
 record-at-requires c κs =
-    let s = c.before.before.before.before in
-    (s.requires.reads, in-use-here (shape_of s.args.target) s.args.table.now _ _ c.before.found.given.1 s.requires.at)
+    (c.requires.reads, in-use-here (shape_of c.args.target) c.args.table.now _ _ c.in-Live.is c.requires.at)
 
-returns-2 : tie.Need-returns-2
+returns-2 : tie.Need-returns
 returns-2 c =
-    let s = c.before.before.before.before.before.before.before in
-    c.sum-text.ensures ∙ ap (total (model_increment s.args.increment))
-    (ap some (c.before.value.ensures ∙ ap (λ (r : Record). r.value) c.before.before.record-at.ensures.is) ∙ sym (value-live s.args.table.now s.args.target _ _ c.before.before.before.before.found.given.1))
+    c.sum_text.ensures ∙ ap (total (model_increment c.args.increment))
+    (ap some (c.value-text.ensures ∙ ap (λ (r : Record). r.value) c.record_at.ensures.is) ∙ sym (value-live c.args.table.now c.args.target _ _ c.in-Live.is))
 
-pub total-spec : {M : Type 1} → statement M
-total-spec =
+pub total_spec : {M : Type 1} → statement M
+total_spec =
     tie.close
     (tie.spec
     (λ c. search rules)

@@ -6,9 +6,7 @@ use Rattle.assembler.proofs.frame.first_digit.Tie as tie
 
 returns : tie.Need-returns
 returns c =
-    let a = c in
-    let i = a in
-    c.to.ensures ∙ rw (i.is_digit.ensures, a.is_allowed.ensures, i.digit_of-n.ensures)
+    c.to.ensures ∙ rw (c.is_digit.ensures, c.is_allowed.ensures, c.digit_of-n.ensures)
 
 pub first_digit_spec : {M : Type 1} → statement M
 first_digit_spec =

@@ -14,18 +14,17 @@ asked : (s : tie.Start) {p : Place} → s.args.place ≡ p → s.args.used + nee
 asked s e = subst (λ (p : Place). s.args.used + need (place_of p) < 65536) e s.requires
 
 need-after-requires : tie.Need-need_after-requires
-need-after-requires c κs = let p = c in omega (arith, asked p.before p.in-Digit.is)
+need-after-requires c κs = omega (arith, asked c.before c.in-Digit.is)
 
 add-result : tie.Need-overflow_add-result
-add-result c = let p = c in omega (arith, c.need_after.ensures, asked p.before.before p.in-Digit.is)
+add-result c = omega (arith, c.need_after.ensures, asked c.before.before c.in-Digit.is)
 
 add-result-2 : tie.Need-overflow_add-result-in-Digit
-add-result-2 c = let p = c in omega (arith, c.need_after.ensures, asked p.before.before p.in-Digit.is)
+add-result-2 c = omega (arith, c.need_after.ensures, asked c.before.before c.in-Digit.is)
 
 returns : tie.Need-returns-in-Digit
 returns c =
-    let p = c in let s = p in
-    rw c.need_after.ensures (ap (λ (q : Place). beyond (place_of q) s.args.used) (sym p.in-Digit.is))
+    rw c.need_after.ensures (ap (λ (q : Place). beyond (place_of q) c.args.used) (sym c.in-Digit.is))
 
 pub is_beyond_spec : {M : Type 1} → statement M
 is_beyond_spec =

@@ -15,13 +15,11 @@ at s e = ap (λ (p : Place). next (place_of p) s.args.c) (sym e)
 
 next-digit-requires : tie.Need-next_digit-requires
 next-digit-requires c κs =
-    let p = c.before.place2.given in
-    digits-small (header_of p.0.0) p.0.1.0 (subst (λ (q : Place). need (place_of q) ≤ 512) p.1 c.requires)
+    digits-small (header_of c.in-Digit.header) c.in-Digit.n (subst (λ (q : Place). need (place_of q) ≤ 512) c.in-Digit.is c.requires)
 
 returns-4 : tie.Need-returns-in-LineEnd
 returns-4 c =
-    let a = c in let p = a in
-    c.to-in-LineEnd.ensures ∙ rw a.after.ensures (at p.before.before.before p.in-LineEnd.is)
+    c.to-in-LineEnd.ensures ∙ rw c.after.ensures (at c.before.before.before c.in-LineEnd.is)
 
 pub next_spec : {M : Type 1} → statement M
 next_spec =

@@ -7,8 +7,7 @@ use Rattle.assembler.proofs.frame.next_digit.Tie as tie
 
 returns-2 : tie.Need-returns
 returns-2 c =
-    let a = c in let i = a in let d = i in let l = d in
-    c.to.ensures ∙ rw (i.is_digit.ensures, a.is_allowed.ensures, d.digit_of.ensures, ne_eqb l.args.c 13 l.if-c-eq13.false)
+    c.to.ensures ∙ rw (c.is_digit.ensures, c.is_allowed.ensures, c.digit_of.ensures, ne_eqb c.args.c 13 c.if-c-eq13.false)
 
 pub next_digit_spec : {M : Type 1} → statement M
 next_digit_spec =

@@ -9,7 +9,7 @@ use Rattle.assembler.proofs.machine.is_end.Statement.{statement}
 use Rattle.assembler.proofs.machine.is_end.Tie as tie
 
 returns : tie.Need-returns-in-Words
-returns c = let p = c.before.place.given in words-end p.0.0 ∙ ap (λ (q : Place). is_end (place_of q)) (sym p.1)
+returns c = words-end c.in-Words.n ∙ ap (λ (q : Place). is_end (place_of q)) (sym c.in-Words.is)
 
 pub is_end_spec : {M : Type 1} → statement M
 is_end_spec =

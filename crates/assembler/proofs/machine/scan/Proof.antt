@@ -18,38 +18,34 @@ abbrev decreases-loop : tie.decreases-loop-i
 decreases-loop bytes state₀ i₀ state i = length bytes - i
 
 loop-holds : tie.Need-loop-i-init invariant-loop decreases-loop
-loop-holds c = let s = c in (omega arith, s.requires, come-none (state_of s.args.from) s.args.bytes.now)
+loop-holds c = (omega arith, c.requires, come-none (state_of c.args.from) c.args.bytes.now)
 
 -- the state after the byte at place i
-stepped : (c : tie.In-At invariant-loop decreases-loop) → let l = c in let s = l in
-    step (state_of l.loop-i.state) (get_or s.args.bytes.now l.loop-i.i 0) ≡ some (state_of c.in-At.next)
+stepped : (c : tie.In-At invariant-loop decreases-loop) → step (state_of c.loop-i.state) (get_or c.args.bytes.now c.loop-i.i 0) ≡ some (state_of c.in-At.next)
 stepped c = sym c.step.ensures ∙ ap state_after c.in-At.is
 
 returns : tie.Need-returns-in_default invariant-loop decreases-loop
 returns c =
-    let t = c in let i = t in let l = i in let s = l in
-    sym (come-dead (state_of s.args.from) s.args.bytes.now (state_of l.loop-i.state) l.loop-i.i l.loop-i.invariant.2 i.loop-i-test.true
-    (sym t.step.ensures ∙ ap state_after c.in_default.is))
+    sym (come-dead (state_of c.args.from) c.args.bytes.now (state_of c.loop-i.state) c.loop-i.i c.loop-i.invariant.2 c.loop-i-test.true
+    (sym c.step.ensures ∙ ap state_after c.in_default.is))
 
 returns-2 : tie.Need-returns-then-is_end invariant-loop decreases-loop
 returns-2 c =
-    let e = c in let k = e.before.before in let i = k in let l = i in let s = l in
-    sym (come-end (state_of s.args.from) s.args.bytes.now (state_of l.loop-i.state) l.loop-i.i l.loop-i.invariant.2 i.loop-i-test.true
-    (state_of k.in-At.next) (stepped k) (sym e.is_end.ensures ∙ c.if-is_end.true))
+    let k = c.before.before in sym (come-end (state_of k.args.from) k.args.bytes.now (state_of k.loop-i.state) k.loop-i.i k.loop-i.invariant.2 k.loop-i-test.true
+    (state_of k.in-At.next) (stepped k) (sym c.is_end.ensures ∙ c.if-is_end.true))
 
 loop-again : tie.Need-loop-i-preserved invariant-loop decreases-loop
 loop-again c =
-    let e = c in let k = e.before.before in let i = k in let l = i in let s = l in (
+    let k = c.before.before in (
       omega arith,
-      step_fits (state_of l.loop-i.state) (get_or s.args.bytes.now l.loop-i.i 0) (state_of k.in-At.next) (stepped k),
-      come-on (state_of s.args.from) s.args.bytes.now (state_of l.loop-i.state) l.loop-i.i l.loop-i.invariant.2 i.loop-i-test.true
-          (state_of k.in-At.next) (stepped k) (sym e.is_end.ensures ∙ c.if-is_end.false),
+      step_fits (state_of k.loop-i.state) (get_or k.args.bytes.now k.loop-i.i 0) (state_of k.in-At.next) (stepped k),
+      come-on (state_of k.args.from) k.args.bytes.now (state_of k.loop-i.state) k.loop-i.i k.loop-i.invariant.2 k.loop-i-test.true
+          (state_of k.in-At.next) (stepped k) (sym c.is_end.ensures ∙ c.if-is_end.false),
     )
 
 returns-3 : tie.Need-returns invariant-loop decreases-loop
 returns-3 c =
-    let l = c in let s = l in
-    sym (come-all (state_of s.args.from) s.args.bytes.now (state_of l.loop-i.state) l.loop-i.i l.loop-i.invariant.2 c.loop-i-test.false)
+    sym (come-all (state_of c.args.from) c.args.bytes.now (state_of c.loop-i.state) c.loop-i.i c.loop-i.invariant.2 c.loop-i-test.false)
 
 pub scan_spec : {M : Type 1} → statement M
 scan_spec =

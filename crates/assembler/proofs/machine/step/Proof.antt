@@ -20,8 +20,8 @@ reached c = sym c.next.ensures ∙ ap moved_to c.in-To.is
 
 returns : tie.Need-returns-in_default
 returns c =
-    let n = c in let a = n.args in
-    sym (step-none (state_of a.state) a.c (sym n.next.ensures ∙ ap moved_to c.in_default.is))
+    let a = c.args in
+    sym (step-none (state_of a.state) a.c (sym c.next.ensures ∙ ap moved_to c.in_default.is))
 
 is-beyond-requires : tie.Need-is_beyond-requires
 is-beyond-requires c κs =
@@ -30,13 +30,13 @@ is-beyond-requires c κs =
 
 returns-2 : tie.Need-returns-then-is_beyond
 returns-2 c =
-    let b = c in let k = b.before.before in let s = start k in let a = s.args in
-    sym (step-beyond (state_of a.state) a.c (place_of k.in-To.place) (reached k) s.requires (sym b.is_beyond.ensures ∙ c.if-is_beyond.true))
+    let k = c.before.before in let s = start k in let a = s.args in
+    sym (step-beyond (state_of a.state) a.c (place_of k.in-To.place) (reached k) s.requires (sym c.is_beyond.ensures ∙ c.if-is_beyond.true))
 
 returns-3 : tie.Need-returns
 returns-3 c =
-    let b = c in let k = b.before.before in let s = start k in let a = s.args in
-    sym (step-at (state_of a.state) a.c (place_of k.in-To.place) (reached k) s.requires (sym b.is_beyond.ensures ∙ c.if-is_beyond.false))
+    let k = c.before.before in let s = start k in let a = s.args in
+    sym (step-at (state_of a.state) a.c (place_of k.in-To.place) (reached k) s.requires (sym c.is_beyond.ensures ∙ c.if-is_beyond.false))
 
 pub step_spec : {M : Type 1} → statement M
 step_spec =

@@ -3,8 +3,8 @@ use borrow.Author.Rules.{rules}
 use Rattle.commandline.proofs.line.noted.Statement.{statement}
 use Rattle.commandline.proofs.line.noted.Tie as tie
 
-pub noted-spec : {M : Type 1} → statement M
-noted-spec =
+pub noted_spec : {M : Type 1} → statement M
+noted_spec =
     tie.close
     (tie.spec
     (λ c. search rules)
@@ -19,15 +19,15 @@ noted-spec =
     (λ c. search rules)
     (λ c. search rules)
     (λ c. search rules)
-    (λ c. rw c.enum_told.given.1)
-    (λ c. rw c.enum-told2.given.1)
-    (λ c. rw c.enum-told3.given.1)
-    (λ c. rw c.enum-told4.given.1)
-    (λ c. rw c.enum-told5.given.1)
-    (λ c. rw c.enum-told6.given.1)
-    (λ c. rw c.enum-told7.given.1)
-    (λ c. rw c.enum-told8.given.1)
-    (λ c. rw c.enum-told9.given.1)
-    (λ c. rw c.enum-told10.given.1)
-    (λ c. rw c.enum-told11.given.1)
-    (λ c. rw c.enum-told12.given.1))
+    (λ c. rw c.in-Table.is)
+    (λ c. rw c.in-Time.is)
+    (λ c. rw c.in-Init.is)
+    (λ c. rw c.in-Owner.is)
+    (λ c. rw c.in-Installer.is)
+    (λ c. rw c.in-List.is)
+    (λ c. rw c.in-Check.is)
+    (λ c. rw c.in-Diff.is)
+    (λ c. rw c.in-Keeper.is)
+    (λ c. rw c.in-End.is)
+    (λ c. rw c.in-Unknown.is)
+    (λ c. rw c.in-Word.is))

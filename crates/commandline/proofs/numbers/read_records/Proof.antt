@@ -26,24 +26,24 @@ value (some m) n b e t =
     ap (λ (x : Bool). natural_from (cond x (some n) none)) (sym t) ∙ ap (λ (k : ℕ). natural_from (only fits (some k))) same
 
 -- the number that the text says
-said : (c : tie.After-n) → Value c.n.given.0.0 ≡ natural_from (read_version c.before.before.before.before.args.s.now)
-said c = sym c.n.given.1 ∙ c.before.before.read-version.ensures
+said : (c : tie.In-Value) → Value c.in-Value.n ≡ natural_from (read_version c.args.s.now)
+said c = sym c.in-Value.is ∙ c.read_version.ensures
 
-returns : tie.Need-returns
+returns : tie.Need-returns-in_default
 returns c =
-    let r = c.before.before in
-    bad (read_version r.before.before.args.s.now) (sym c.enum_told.given.1 ∙ r.read-version.ensures)
+    let r = c in
+    bad (read_version r.args.s.now) (sym c.in_default.is ∙ r.read_version.ensures)
 
-returns-2 : tie.Need-returns-2
+returns-2 : tie.Need-returns-then-fits
 returns-2 c =
-    let n = c.before.before in
-    value (read_version n.before.before.before.before.args.s.now) n.n.given.0.0 true (said n) c.if1.true
+    let n = c.before in
+    value (read_version n.args.s.now) n.in-Value.n true (said n) c.if-fits.true
 
-returns-3 : tie.Need-returns-3
+returns-3 : tie.Need-returns-else-fits
 returns-3 c =
-    let n = c.before.before in
-    value (read_version n.before.before.before.before.args.s.now) n.n.given.0.0 false (said n) c.if1.false
+    let n = c.before in
+    value (read_version n.args.s.now) n.in-Value.n false (said n) c.if-fits.false
 
-pub read-records-spec : {M : Type 1} → statement M
-read-records-spec =
+pub read_records_spec : {M : Type 1} → statement M
+read_records_spec =
     tie.close (tie.spec (λ c κs. search rules) (λ c. search rules) (λ c. search rules) returns returns-2 returns-3)

@@ -19,5 +19,5 @@ first : (w : List ℕ) → eqb (get_or w 0 0) 45 ≡ dashed w
 first [] = refl
 first (c ∷ s) = refl
 
-pub is-dashed-spec : {M : Type 1} → statement M
-is-dashed-spec = tie.close (tie.spec (λ c. none c.before.args.w.now c.if1.true) (λ c. search rules) (λ c. first c.before.before.args.w.now))
+pub is_dashed_spec : {M : Type 1} → statement M
+is_dashed_spec = tie.close (tie.spec (λ c. none c.args.w.now c.if-w-eq0.true) (λ c. search rules) (λ c. first c.args.w.now))

@@ -13,21 +13,15 @@ use Rattle.difference.proofs.fields.fields_apart.Tie as tie
 value-is : (c : tie.After-same-value) → let a = c.args in
     c.same-value.result ≡ same (fields a.r.now).value (fields a.q.now).value
 value-is c =
-    let q = c in
-    c.same-value.ensures ∙ λ i. same (q.value.ensures i) (q.value-2.ensures i)
+    c.same-value.ensures ∙ λ i. same (c.value.ensures i) (c.value-2.ensures i)
 
 returns : tie.Need-returns
 returns c =
-    let x = c in
-    let g = x in
-    let f = g in
-    let w = f in
-    let v = w in
     λ i. fields_of (record {
-      value = not (value-is v.before.before.before.before.before.before i);
-      version = not (eqb (v.version.ensures i) (w.version-2.ensures i));
-      flags = not (eqb (f.flags.ensures i) (g.flags-2.ensures i));
-      expiry = not (eqb (x.expiry.ensures i) (c.expiry-2.ensures i));
+      value = not (value-is c.before.before.before.before.before.before i);
+      version = not (eqb (c.version.ensures i) (c.version-2.ensures i));
+      flags = not (eqb (c.flags.ensures i) (c.flags-2.ensures i));
+      expiry = not (eqb (c.expiry.ensures i) (c.expiry-2.ensures i));
     })
 
 pub fields_apart_spec : {M : Type 1} → statement M

@@ -15,15 +15,12 @@ told : (c : tie.After-is_none) → let a = c.args in
 told c = sym (c.is_none.ensures ∙ ap is_none c.fields_apart-d.ensures)
 
 -- the line that is due is the one that is written
-line-is : (c : tie.After-key) → let d = c in
-    let a = d.args in
-    lines_bytes (change_lines (fields a.r.now) (fields a.q.now)) ≡ line_bytes 126 c.key.result.now (fields_of d.fields_apart-d.result)
+line-is : (c : tie.After-key) → let a = c.args in
+    lines_bytes (change_lines (fields a.r.now) (fields a.q.now)) ≡ line_bytes 126 c.key.result.now (fields_of c.fields_apart-d.result)
 line-is c =
-    let e = c in
-    let d = e in
-    let a = d.args in
-    one-change (fields a.r.now).key (fields_apart (fields a.r.now) (fields a.q.now)) (told e.before.before.before ∙ e.if-is_none.false)
-    ∙ λ i. line_bytes 126 (sym c.key.ensures i) (sym d.fields_apart-d.ensures i)
+    let a = c.args in
+    one-change (fields a.r.now).key (fields_apart (fields a.r.now) (fields a.q.now)) (told c.before.before.before ∙ c.if-is_none.false)
+    ∙ λ i. line_bytes 126 (sym c.key.ensures i) (sym c.fields_apart-d.ensures i)
 
 returns : tie.Need-returns-then-is_none
 returns c =
@@ -35,7 +32,7 @@ put-line-requires : tie.Need-put_line-requires
 put-line-requires c κs = rw (line-is c) at c.requires.1
 
 returns-2 : tie.Need-returns
-returns-2 c = let w = c in rw (line-is w.before.before.before) w.put_line.ensures
+returns-2 c = rw (line-is c.before.before.before) c.put_line.ensures
 
 pub put_change_spec : {M : Type 1} → statement M
 put_change_spec =

@@ -43,26 +43,23 @@ two_digits place x y s b h =
 
 loop-again : tie.Need-loop-i-preserved invariant-loop decreases-loop
 loop-again c =
-    let d = c in
-    let t = d.before.before.before.before in
-    let l = t in
-    let s = l.args.s.now in
-    let digits : hex (drop l.loop-i.i s) ≡ d.hex_digit.result ∷ c.hex_digit-in-loop-i.result ∷ hex (drop (l.loop-i.i + 1) s) =
-    rw (add-one l.loop-i.i, drop-cons s l.loop-i.i 0 (omega arith), d.hex_digit.ensures, c.hex_digit-in-loop-i.ensures) in (
+    let t = c.before.before.before.before in
+    let s = t.args.s.now in
+    let digits : hex (drop t.loop-i.i s) ≡ c.hex_digit.result ∷ c.hex_digit-in-loop-i.result ∷ hex (drop (t.loop-i.i + 1) s) =
+    rw (add-one t.loop-i.i, drop-cons s t.loop-i.i 0 (omega arith), c.hex_digit.ensures, c.hex_digit-in-loop-i.ensures) in (
       omega arith,
       omega arith,
-      simp length-set l.loop-i.invariant.2,
-      l.loop-i.invariant.3 ∙ rw digits (two_digits l.loop-i.place _ _ (hex (drop (l.loop-i.i + 1) s)) l.loop-i.out (room t)),
+      simp length-set t.loop-i.invariant.2,
+      t.loop-i.invariant.3 ∙ rw digits (two_digits t.loop-i.place _ _ (hex (drop (t.loop-i.i + 1) s)) t.loop-i.out (room t)),
     )
 
 returns : tie.Need-returns invariant-loop decreases-loop
 returns c =
-    let l = c in
-    let s = l.args.s.now in
-    let ended : length s ≤ l.loop.i = omega arith in
+    let s = c.args.s.now in
+    let ended : length s ≤ c.loop-i.i = omega arith in
     record {
       place = omega (arith, length-hex s);
-      bytes = sym (l.loop-i.invariant.3 ∙ rw (drop_of_length-le s ended) (written-nil l.loop-i.place l.loop-i.out));
+      bytes = sym (c.loop-i.invariant.3 ∙ rw (drop_of_length-le s ended) (written-nil c.loop-i.place c.loop-i.out));
     }
 
 pub put_hex_spec : {M : Type 1} → statement M

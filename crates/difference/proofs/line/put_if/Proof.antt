@@ -6,12 +6,11 @@ use Rattle.difference.proofs.line.put_if.Statement.{statement}
 use Rattle.difference.proofs.line.put_if.Tie as tie
 
 copy-requires : tie.Need-copy-requires
-copy-requires c κs = let t = c in rw t.if-wanted.true at t.requires
+copy-requires c κs = rw c.if-wanted.true at c.requires
 
 returns : tie.Need-returns-then-wanted
 returns c =
-    let w = c in
-    rw w.if-wanted.true (record { place = refl; bytes = w.copy.ensures })
+    rw c.if-wanted.true (record { place = refl; bytes = c.copy.ensures })
 
 returns-2 : tie.Need-returns
 returns-2 c =

@@ -32,13 +32,11 @@ marked c =
 almost : (c : tie.After-put_fields-end)
     → Left c.before.before.before.before.before.before.before.before ((10 ∷ []) ∷ []) c.put_fields-end.new.out c.put_fields-end.result
 almost c =
-    let k = c in
-    next (next (marked k.before.before.before.before.before.before.before.before) k.put_hex-names.ensures) c.put_fields-end.ensures
+    next (next (marked c.before.before.before.before.before.before.before.before) c.put_hex-names.ensures) c.put_fields-end.ensures
 
 put-fields-requires : tie.Need-put_fields-end-requires
 put-fields-requires c κs =
-    let k = c in
-    room (next (marked k.before.before.before.before.before.before.before) k.put_hex-names.ensures)
+    room (next (marked c.before.before.before.before.before.before.before) c.put_hex-names.ensures)
 
 returns : tie.Need-returns
 returns c = all (store (almost c.before.before))

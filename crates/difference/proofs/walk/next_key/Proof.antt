@@ -16,21 +16,16 @@ returns c =
 
 returns-2 : tie.Need-returns-then-second-walk
 returns-2 c =
-    let e = c in
-    let a = e.args in
-    sym (second_ended a.before.now a.first.now a.after.now a.second.now a.walk.first a.walk.second (omega (arith, e.if-first-walk.false)) c.if-second-walk.true)
+    let a = c.args in
+    sym (second_ended a.before.now a.first.now a.after.now a.second.now a.walk.first a.walk.second (omega (arith, c.if-first-walk.false)) c.if-second-walk.true)
 
 returns-3 : tie.Need-returns
 returns-3 c =
-    let q = c in
-    let k = q in
-    let f = k in
-    let e = f in
-    let a = e.args in
-    let n = records-next a.before.now a.first.now a.walk.first (omega (arith, e.if-first-walk.false)) in
-    let o = records-next a.after.now a.second.now a.walk.second (omega (arith, f.if-second-walk.false)) in
-    let key-is = k.key.ensures ∙ ap (λ (r : Record). r.key) k.record_at.ensures.is in
-    let key2-is = q.key-2.ensures ∙ ap (λ (r : Record). r.key) q.record_at-2.ensures.is in
+    let a = c.args in
+    let n = records-next a.before.now a.first.now a.walk.first (omega (arith, c.if-first-walk.false)) in
+    let o = records-next a.after.now a.second.now a.walk.second (omega (arith, c.if-second-walk.false)) in
+    let key-is = c.key.ensures ∙ ap (λ (r : Record). r.key) c.record_at.ensures.is in
+    let key2-is = c.key-2.ensures ∙ ap (λ (r : Record). r.key) c.record_at-2.ensures.is in
     c.compare.ensures ∙ (λ x. compared (key-is x) (key2-is x)) ∙ sym (λ x. next_of (n x) (o x))
 
 pub next_key_spec : {M : Type 1} → statement M

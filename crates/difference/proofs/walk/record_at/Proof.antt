@@ -7,8 +7,7 @@ use Rattle.difference.proofs.walk.record_at.Tie as tie
 
 record-at-requires : tie.Need-record_at-requires
 record-at-requires c κs =
-    let s = c in
-    (s.requires.0.good.reads, along-in-use s.requires.0 s.args.i s.requires.1)
+    (c.requires.0.good.reads, along-in-use c.requires.0 c.args.i c.requires.1)
 
 pub record_at_spec : {M : Type 1} → statement M
 record_at_spec =

@@ -39,12 +39,10 @@ earlier : (c : tie.In-Earlier) → Passed c.before.before.before.before.before.b
 earlier c = let n = c.before in subst (Passed n.before.before.before.before.before.before) c.in-Earlier.is (told n)
 
 removes : (c : tie.After-no_field)
-    → let k = c in
-    let s = k.before.before.before.before.before.before.before.before.before.before.before.before in
-    line_bytes 45 k.key-key.result.now (fields_of c.no_field.result) ≡ lines_bytes (removed (first_record s).key ∷ [])
+    → let s = c.before.before.before.before.before.before.before.before.before.before.before.before in
+    line_bytes 45 c.key-key.result.now (fields_of c.no_field.result) ≡ lines_bytes (removed (first_record s).key ∷ [])
 removes c =
-    let k = c in
-    let key-is = k.key-key.ensures ∙ ap (λ (r : Record). r.key) k.record_at.ensures.is in
+    let key-is = c.key-key.ensures ∙ ap (λ (r : Record). r.key) c.record_at.ensures.is in
     (λ x. line_bytes 45 (key-is x) (c.no_field.ensures x)) ∙ sym (removed-line _)
 
 put-line-requires : tie.Need-put_line-requires
@@ -54,8 +52,7 @@ put-line-requires c κs =
 
 returns : tie.Need-returns-in-Earlier
 returns c =
-    let w = c in
-    record { lines = _; passes = earlier w.before.before.before.before.before.before.before.before; wrote = wrote_as (removes w.before.before.before) w.put_line.ensures }
+    record { lines = _; passes = earlier c.before.before.before.before.before.before.before.before; wrote = wrote_as (removes c.before.before.before) c.put_line.ensures }
 
 -- ---- a key in the second table alone
 
@@ -63,12 +60,10 @@ later : (c : tie.In-Later) → Passed c.before.before.before.before.before.befor
 later c = let n = c.before in subst (Passed n.before.before.before.before.before.before) c.in-Later.is (told n)
 
 adds : (c : tie.After-no_field-in-Later)
-    → let k = c in
-    let s = k.before.before.before.before.before.before.before.before.before.before.before.before in
-    line_bytes 43 k.key-key-in-Later.result.now (fields_of c.no_field-in-Later.result) ≡ lines_bytes (added (second_record s).key ∷ [])
+    → let s = c.before.before.before.before.before.before.before.before.before.before.before.before in
+    line_bytes 43 c.key-key-in-Later.result.now (fields_of c.no_field-in-Later.result) ≡ lines_bytes (added (second_record s).key ∷ [])
 adds c =
-    let k = c in
-    let key-is = k.key-key-in-Later.ensures ∙ ap (λ (r : Record). r.key) k.record_at-in-Later.ensures.is in
+    let key-is = c.key-key-in-Later.ensures ∙ ap (λ (r : Record). r.key) c.record_at-in-Later.ensures.is in
     (λ x. line_bytes 43 (key-is x) (c.no_field-in-Later.ensures x)) ∙ sym (added-line _)
 
 put-line-requires-2 : tie.Need-put_line-requires-in-Later
@@ -78,8 +73,7 @@ put-line-requires-2 c κs =
 
 returns-2 : tie.Need-returns-in-Later
 returns-2 c =
-    let w = c in
-    record { lines = _; passes = later w.before.before.before.before.before.before.before.before; wrote = wrote_as (adds w.before.before.before) w.put_line-in-Later.ensures }
+    record { lines = _; passes = later c.before.before.before.before.before.before.before.before; wrote = wrote_as (adds c.before.before.before) c.put_line-in-Later.ensures }
 
 -- ---- a key in both tables
 
@@ -87,25 +81,22 @@ both : (c : tie.In-Equal) → Passed c.before.before.before.before.before.before
 both c = let n = c.before in subst (Passed n.before.before.before.before.before.before) c.in-Equal.is (told n)
 
 changes : (c : tie.After-record_at-q)
-    → let r = c in
-    let s = r.before.before.before.before.before.before.before.before.before in
-    change_lines (fields r.record_at-r.result.now) (fields c.record_at-q.result.now)
+    → let s = c.before.before.before.before.before.before.before.before.before in
+    change_lines (fields c.record_at-r.result.now) (fields c.record_at-q.result.now)
     ≡ change_lines (first_record s) (second_record s)
 changes c = λ x. change_lines (c.record_at-r.ensures.is x) (c.record_at-q.ensures.is x)
 
 put-change-requires : tie.Need-put_change-requires
 put-change-requires c κs =
     let q = c.before.before.before in
-    let r = q in
-    let t = r.before.before in
+    let t = q.before.before in
     let room = step_room t.requires.1.0 (both t) in
-    ((r.record_at-r.ensures.in_use, q.record_at-q.ensures.in_use), rw (changes q) room)
+    ((q.record_at-r.ensures.in_use, q.record_at-q.ensures.in_use), rw (changes q) room)
 
 returns-3 : tie.Need-returns-in-Equal
 returns-3 c =
-    let w = c in
-    let q = w.before.before.before.before.before.before in
-    record { lines = _; passes = both q.before.before; wrote = wrote_as (ap lines_bytes (changes q)) w.put_change.ensures }
+    let q = c.before.before.before.before.before.before in
+    record { lines = _; passes = both q.before.before; wrote = wrote_as (ap lines_bytes (changes q)) c.put_change.ensures }
 
 pub step_spec : {M : Type 1} → statement M
 step_spec =

@@ -10,10 +10,8 @@ use Rattle.difference.proofs.walk.write_between.Tie as tie
 
 write-lines-requires : tie.Need-write_lines-requires
 write-lines-requires c κs =
-    let m = c in
-    let n = m in
-    let p = n.requires in
-    (along-part p.0.0 n.make_index-n.ensures, along-part p.0.1 m.make_index-m.ensures, p.1.2)
+    let p = c.requires in
+    (along-part p.0.0 c.make_index-n.ensures, along-part p.0.1 c.make_index-m.ensures, p.1.2)
 
 pub write_between_spec : {M : Type 1} → statement M
 write_between_spec =
@@ -24,8 +22,8 @@ write_between_spec =
     (λ c κs. let g = c.requires in
     (g.0.1, omega (arith, g.1.1, slots-limit form128 _ g.0.1.reads)))
     (λ c. search rules) (λ c. search rules)
-    (λ c. let m = c in (ascends m.requires.0.0.keys m.make_index-n.ensures).room)
+    (λ c. (ascends c.requires.0.0.keys c.make_index-n.ensures).room)
     (λ c. search rules) (λ c. search rules)
-    (λ c. let m = c in (ascends m.requires.0.1.keys m.make_index-m.ensures).room)
+    (λ c. (ascends c.requires.0.1.keys c.make_index-m.ensures).room)
     write-lines-requires
     (λ c. search rules) (λ c. search rules) (λ c. search rules) (λ c. search rules))

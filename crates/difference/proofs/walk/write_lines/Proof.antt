@@ -35,10 +35,8 @@ loop-holds c =
 
 step-requires : tie.Need-step-walk-requires invariant-loop decreases-loop
 step-requires c κs =
-    let t = c in
-    let l = t in
-    let h = l.requires in
-    ((h.0, h.1), (l.loop-walk.invariant.ready, t.loop-walk-test.true))
+    let h = c.requires in
+    ((h.0, h.1), (c.loop-walk.invariant.ready, c.loop-walk-test.true))
 
 pub write_lines_spec : {M : Type 1} → statement M
 write_lines_spec =
@@ -47,7 +45,7 @@ write_lines_spec =
     invariant-loop
     decreases-loop
     loop-holds
-    (λ c. let l = c in omega (arith, limits l.before.before.before.before.before.before.before, l.loop-walk.invariant.ready.first, l.loop-walk.invariant.ready.second))
+    (λ c. omega (arith, limits c.before.before.before.before.before.before.before, c.loop-walk.invariant.ready.first, c.loop-walk.invariant.ready.second))
     (λ c. omega (arith, limits c.before.before.before.before.before.before.before))
     step-requires
     (λ c. c.step-walk.ensures.passes.less)

@@ -12,9 +12,8 @@ use Rattle.execute.proofs.fields.finish.Tie as tie
 
 error-requires : tie.Need-error-requires
 error-requires c κs =
-    let s = c.before.before.before.before.before.before in
-    let h = subst StoredOk c.before.before.stored.given.1 s.requires.0.1 in
-    (error-in s.requires.0.0.room c.before.before.stored.given.0.0, h.0, h.1)
+    let h = subst StoredOk c.in-Refused.is c.requires.0.1 in
+    (error-in c.requires.0.0.room c.in-Refused.number, h.0, h.1)
 
 pub finish_spec : {M : Type 1} → statement M
 finish_spec =
@@ -26,9 +25,7 @@ finish_spec =
     (λ c κs. search rules)
     (λ c. search rules)
     (λ c xs hl ht.
-    let e = c.before.before in let k = e.before.before.before in let s = k.before.before.before.before in
-    subst (λ (r : Stored). Finishes s.args.reply.now e.error.new.0 r (λ (n : ℕ). array xs) e.error.result) (sym k.stored.given.1) (finishes-refused e.error.ensures))
+    subst (λ (r : Stored). Finishes c.args.reply.now c.error.new.reply r (λ (n : ℕ). array xs) c.error.result) (sym c.in-Refused.is) (finishes-refused c.error.ensures))
     (λ c. search rules)
     (λ c xs hl ht.
-    let e = c.before.before in let k = e.before.before in let s = k.before.before.before.before in
-    subst (λ (r : Stored). Finishes s.args.reply.now e.elements.new.0 r (λ (n : ℕ). array xs) e.elements.result) (sym k.enum_told.given.1) (finishes-stored (λ (n : ℕ). array xs) (e.elements.ensures xs hl ht))))
+    subst (λ (r : Stored). Finishes c.args.reply.now e.elements.new.reply r (λ (n : ℕ). array xs) e.elements.result) (sym k.in-Version.is) (finishes-stored (λ (n : ℕ). array xs) (e.elements.ensures xs hl ht))))

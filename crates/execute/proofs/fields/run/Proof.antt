@@ -16,57 +16,52 @@ use Rattle.execute.proofs.Running.{limit-small, ran, unwritten, written, puts-va
 use Rattle.execute.proofs.fields.run.Statement.{statement}
 use Rattle.execute.proofs.fields.run.Tie as tie
 
-abbrev start : tie.After-run-stored → tie.Start
-start c = c.before.before.before.before.before.before.before
+abbrev start : tie.After-run_stored-ran → tie.Start
+start c = c.before.before.before.before.before.before
 
 -- the answers have few bytes
-small : (c : tie.After-run-stored) → c.run-stored.result.end ≤ 92
-small c = let a = (start c).args in omega (arith, end_is c.run-stored.ensures, answers-size a.table.now a.target a.subs (start c).requires.1.0)
+small : (c : tie.After-run_stored-ran) → c.run_stored-ran.result.end ≤ 92
+small c = let a = (start c).args in omega (arith, end_is c.run_stored-ran.ensures, answers-size a.table.now a.target a.subs (start c).requires.1.0)
 
 -- the parts of the two buffers that are handed on
-text-part : (c : tie.After-run-stored) → c.run-stored.result.end ≡ length (take c.run-stored.result.end c.run-stored.new.1.1.1.1.0)
-text-part c = end_is c.run-stored.ensures ∙ sym (ap length (text-is c.run-stored.ensures))
+text-part : (c : tie.After-run_stored-ran) → c.run_stored-ran.result.end ≡ length (take c.run_stored-ran.result.end c.run_stored-ran.new.text)
+text-part c = end_is c.run_stored-ran.ensures ∙ sym (ap length (text-is c.run_stored-ran.ensures))
 
-text-within : (c : tie.After-run-stored) → c.run-stored.result.end ≤ length c.run-stored.new.1.1.1.1.0
-text-within c = omega (arith, small c, c.run-stored.auto.1.1.1.1.0)
+text-within : (c : tie.After-run_stored-ran) → c.run_stored-ran.result.end ≤ length c.run_stored-ran.new.text
+text-within c = omega (arith, small c, c.run_stored-ran.auto.text)
 
 -- an array of so many answers has room
-answers-room : (c : tie.After-run-stored) → ((start c).args.subs.count < 10) × (4 + length (take c.run-stored.result.end c.run-stored.new.1.1.1.1.0) ≤ length (start c).args.reply.now)
+answers-room : (c : tie.After-run_stored-ran) → ((start c).args.subs.count < 10) × (4 + length (take c.run_stored-ran.result.end c.run_stored-ran.new.text) ≤ length (start c).args.reply.now)
 answers-room c =
     let s = start c in
-    (omega (arith, s.pre.1.0.few), omega (arith, small c, text-part c, s.pre.0.room.roomy.fields, s.pre.0.room.least))
+    (omega (arith, s.requires.1.0.few), omega (arith, small c, text-part c, s.requires.0.room.roomy.fields, s.requires.0.room.least))
 
-value-part : (c : tie.After-run-stored) → c.run-stored.result.len ≡ length (take c.run-stored.result.len c.run-stored.new.1.1.1.0)
-value-part c = c.run-stored.ensures.holds.size ∙ sym (ap length (value-is c.run-stored.ensures))
+value-part : (c : tie.After-run_stored-ran) → c.run_stored-ran.result.len ≡ length (take c.run_stored-ran.result.len c.run_stored-ran.new.value)
+value-part c = c.run_stored-ran.ensures.holds.size ∙ sym (ap length (value-is c.run_stored-ran.ensures))
 
 -- and of which one is stored
-value-small : (c : tie.After-run-stored) → length (take c.run-stored.result.len c.run-stored.new.1.1.1.0) ≤ (shape_of (start c).args.target).value_limit
+value-small : (c : tie.After-run_stored-ran) → length (take c.run_stored-ran.result.len c.run_stored-ran.new.value) ≤ (shape_of (start c).args.target).value_limit
 value-small c =
     let s = start c in let a = s.args in
-    omega (arith, ap length (value-is c.run-stored.ensures), value-fits a.table.now a.target a.subs s.pre.1.1 s.pre.1.0 s.pre.0.under.sound)
+    omega (arith, ap length (value-is c.run_stored-ran.ensures), value-fits a.table.now a.target a.subs s.requires.1.1 s.requires.1.0 s.requires.0.under.sound)
 
 -- stored
-returns-2 : tie.Need-returns-2
+returns-2 : tie.Need-returns
 returns-2 c =
-    let n = c.before.before in
-    let p = n.before.before.before.before.before in
-    let i = p.before.before.before in
-    let r = i.before.before.before.before in
-    let s = start r in let a = s.args in let l = r.run-stored.ensures in let d = ran a.table.now a.target a.subs in
-    does-as (written a.table.now a.target a.subs s.pre.1.1 _ l (not-false r.run-stored.result.wrote i.if1.false))
-    ((n.finish.ensures (map result_scalar d.results) (answers-count a.table.now a.target a.subs) (text-is {d = d} l)).does _ a.table.now _ _
-    (puts-value a.table.now a.target a.subs s.pre.1.1 _ l p.store-value.ensures))
+    let r = c.before.before.before.before.before.before.before.before.before.before.before.before.before.before in
+    let s = start r in let a = s.args in let l = r.run_stored-ran.ensures in let d = ran a.table.now a.target a.subs in
+    does-as (written a.table.now a.target a.subs s.requires.1.1 _ l (not-false r.run_stored-ran.result.wrote c.if-not-ran.false))
+    ((c.finish.ensures (map result_scalar d.results) (answers-count a.table.now a.target a.subs) (text-is {d = d} l)).does _ a.table.now _ _
+    (puts-value a.table.now a.target a.subs s.requires.1.1 _ l c.store_value-stored.ensures))
 
 -- and not stored
-returns : tie.Need-returns
+returns : tie.Need-returns-then-not-ran
 returns c =
-    let e = c.before.before in
-    let i = e.before.before.before in
-    let r = i.before.before.before.before in
-    let s = start r in let a = s.args in let l = r.run-stored.ensures in let d = ran a.table.now a.target a.subs in
+    let r = c.before.before.before.before.before.before.before.before.before in
+    let s = start r in let a = s.args in let l = r.run_stored-ran.ensures in let d = ran a.table.now a.target a.subs in
     does-answer _ a.table.now _ _ _ _
-    (unwritten a.table.now a.target a.subs s.pre.1.1 _ l (not-true r.run-stored.result.wrote i.if1.true))
-    (e.elements.ensures (map result_scalar d.results) (answers-count a.table.now a.target a.subs) (text-is {d = d} l))
+    (unwritten a.table.now a.target a.subs s.requires.1.1 _ l (not-true r.run_stored-ran.result.wrote c.if-not-ran.true))
+    (c.elements.ensures (map result_scalar d.results) (answers-count a.table.now a.target a.subs) (text-is {d = d} l))
 
 pub run_spec : {M : Type 1} → statement M
 run_spec =
@@ -75,8 +70,8 @@ run_spec =
     (λ c. search rules)
     (λ c. search rules)
     (λ c κs.
-    let s = c.before.before.before.before.before.before in let a = s.args in
-    (s.requires.0.under.sound, ((refl, limit-small a.target.form, omega arith), (runnable a.table.now a.target a.subs s.requires.1.1 s.requires.1.0, omega (arith, s.requires.1.0.few)))))
+    let a = c.args in
+    (c.requires.0.under.sound, ((refl, limit-small a.target.form, omega arith), (runnable a.table.now a.target a.subs c.requires.1.1 c.requires.1.0, omega (arith, c.requires.1.0.few)))))
     (λ c. text-within c.before.before.before.before.before)
     (λ c. text-part c.before.before.before.before.before.before)
     (λ c κs. answers-room c.before.before.before.before.before.before)
@@ -85,10 +80,10 @@ run_spec =
     returns
     (λ c. search rules)
     (λ c. value-part c.before.before.before.before.before.before)
-    (λ c κs. let r = c.before.before.before.before.before.before in let s = start r in (s.pre.0.under.sound, (s.pre.0.key, value-small r)))
+    (λ c κs. let r = c.before.before.before.before.before.before in let s = start r in (s.requires.0.under.sound, (s.requires.0.key, value-small r)))
     (λ c. text-within c.before.before.before.before.before.before.before.before.before)
     (λ c. text-part c.before.before.before.before.before.before.before.before.before.before)
-    (λ c κs. let p = c.before.before.before.before in let r = p.before.before.before.before.before.before.before in (finish-in (start r).requires.0 (swapping keep) _ _ tt p.store-value.ensures, answers-room r))
+    (λ c κs. let r = c.before.before.before.before.before.before.before.before.before.before.before in (finish-in (start r).requires.0 (swapping keep) _ _ tt c.store_value-stored.ensures, answers-room r))
     (λ c. search rules)
     (λ c. search rules)
     returns-2)

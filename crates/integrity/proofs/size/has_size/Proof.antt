@@ -16,23 +16,20 @@ use Rattle.integrity.proofs.size.has_size.Statement.{statement}
 use Rattle.integrity.proofs.size.has_size.Tie as tie
 
 -- whole records, as many as the model counts
-whole-told : (c : tie.Else-n-size) → let s = c in eqb (length s.args.table.now % record_size (form_of s.args.form)) 0 ≡ true
+whole-told : (c : tie.Else-n-size) → eqb (length c.args.table.now % record_size (form_of c.args.form)) 0 ≡ true
 whole-told c =
-    let s = c in
-    eq-eqb _ _ (whole (form_of s.args.form) (length s.args.table.now) _ _ c.count-n.ensures c.size.ensures c.if-n-size.false)
+    eq-eqb _ _ (whole (form_of c.args.form) (length c.args.table.now) _ _ c.count-n.ensures c.size.ensures c.if-n-size.false)
 
-count-told : (c : tie.Else-n-size) → let s = c in count_of (form_of s.args.form) s.args.table.now ≡ c.count-n.result
+count-told : (c : tie.Else-n-size) → count_of (form_of c.args.form) c.args.table.now ≡ c.count-n.result
 count-told c = sym c.count-n.ensures
 
 mul-if1 : tie.Need-overflow_mul-n
 mul-if1 c =
-    let s = c in
-    rw (c.size.ensures, c.count-n.ensures) (record { fits = omega (arith, div-add-mod' (length s.args.table.now) (record_size (form_of s.args.form))) })
+    rw (c.size.ensures, c.count-n.ensures) (record { fits = omega (arith, div-add-mod' (length c.args.table.now) (record_size (form_of c.args.form))) })
 
 returns : tie.Need-returns-then-n-size
 returns c =
-    let s = c in
-    rw (ne_eqb _ _ (not-whole (form_of s.args.form) (length s.args.table.now) _ _ c.count-n.ensures c.size.ensures c.if-n-size.true))
+    rw (ne_eqb _ _ (not-whole (form_of c.args.form) (length c.args.table.now) _ _ c.count-n.ensures c.size.ensures c.if-n-size.true))
 
 returns-2 : tie.Need-returns-then-n-lt1
 returns-2 c = rw (whole-told c.before, count-told c.before, lt-leb 1 c.count-n.result (omega arith))

@@ -35,8 +35,7 @@ told c = c.in_use.ensures ∙ ap is_used c.slot-r.ensures
 here : (c : tie.Else-not-in_use) → let a = c.args in
     get_elem? (slots_of (form_of a.form) a.table.now) a.slot ≡ some (used (fields (record_at (form_of a.form) a.slot a.table.now)))
 here c =
-    let s = c in
-    slot-full (form_of s.args.form) s.args.table.now s.requires.0.reads s.args.slot s.requires.1.0.0 (sym (told c.before) ∙ c.if-not-in_use.false)
+    slot-full (form_of c.args.form) c.args.table.now c.requires.0.reads c.args.slot c.requires.1.0.0 (sym (told c.before) ∙ c.if-not-in_use.false)
 
 returns : tie.Need-returns-then-not-in_use
 returns c =
@@ -46,26 +45,21 @@ returns c =
 
 key-requires : tie.Need-key-requires
 key-requires c κs =
-    let e = c in
-    let s = e in
-    let f = form_of s.args.form in
-    let b = record_at f s.args.slot s.args.table.now in
-    subst InUse (sym e.slot-r.ensures) (record {
+    let f = form_of c.args.form in
+    let b = record_at f c.args.slot c.args.table.now in
+    subst InUse (sym c.slot-r.ensures) (record {
       form = f;
-      lawful = lawful-form s.args.form;
-      is = used-in-use f b (slot-readable f s.args.table.now s.requires.0.reads s.args.slot s.requires.1.0.0) (sym (told e.before) ∙ e.if-not-in_use.false);
+      lawful = lawful-form c.args.form;
+      is = used-in-use f b (slot-readable f c.args.table.now c.requires.0.reads c.args.slot c.requires.1.0.0) (sym (told c.before) ∙ c.if-not-in_use.false);
     })
 
 -- what the search told, of this slot's key
-stands : (c : tie.After-find_place) → let s = c in
-    let f = form_of s.args.form in
-    Stands f s.args.table.now s.args.list.now s.args.n (fields (record_at f s.args.slot s.args.table.now)).key c.find_place.result
+stands : (c : tie.After-find_place) → let f = form_of c.args.form in
+    Stands f c.args.table.now c.args.list.now c.args.n (fields (record_at f c.args.slot c.args.table.now)).key c.find_place.result
 stands c =
-    let k = c in
-    let s = k in
-    let f = form_of s.args.form in
-    subst (λ (x : List ℕ). Stands f s.args.table.now s.args.list.now s.args.n x c.find_place.result)
-    (k.key.ensures ∙ ap (λ (b : List ℕ). (fields b).key) k.slot-r.ensures) c.find_place.ensures
+    let f = form_of c.args.form in
+    subst (λ (x : List ℕ). Stands f c.args.table.now c.args.list.now c.args.n x c.find_place.result)
+    (c.key.ensures ∙ ap (λ (b : List ℕ). (fields b).key) c.slot-r.ensures) c.find_place.ensures
 
 returns-2 : tie.Need-returns-in-At
 returns-2 c =
@@ -76,30 +70,27 @@ returns-2 c =
     absurd (not_there s.requires.0.keys (listed s) _ (here e) _ w.0 w.1)
 
 -- the place for the key
-between : (c : tie.In-Gap) → let s = c in
-    let f = form_of s.args.form in
-    Between f s.args.table.now s.args.list.now s.args.n (fields (record_at f s.args.slot s.args.table.now)).key c.in-Gap.place
+between : (c : tie.In-Gap) → let f = form_of c.args.form in
+    Between f c.args.table.now c.args.list.now c.args.n (fields (record_at f c.args.slot c.args.table.now)).key c.in-Gap.place
 between c = subst (Stands _ _ _ _ _) c.in-Gap.is (stands c.before)
 
 returns-3 : tie.Need-returns-in-Gap
 returns-3 c =
-    let i = c in
-    let v = i.before.before.before.before in
-    let p = v in
-    let e = p.before.before.before in
+    let v = c.before.before.before.before in
+    let e = v.before.before.before in
     let s = e.before.before.before.before.before in
-    enters s.requires.0.keys (listed s) _ (here e) _ (between v) (room s) i.put_in.ensures
+    enters s.requires.0.keys (listed s) _ (here e) _ (between v) (room s) c.put_in.ensures
 
 pub enter_spec : {M : Type 1} → statement M
 enter_spec =
     tie.close
     (tie.spec
-    (λ c κs. let s = c in inside-table (form_of s.args.form) s.args.table.now s.requires.0.reads s.args.slot s.requires.1.0.0)
-    (λ c κs. let s = c in omega (arith, ap length c.slot-r.ensures ∙ (slot-readable (form_of s.args.form) s.args.table.now s.requires.0.reads s.args.slot s.requires.1.0.0).size))
+    (λ c κs. inside-table (form_of c.args.form) c.args.table.now c.requires.0.reads c.args.slot c.requires.1.0.0)
+    (λ c κs. omega (arith, ap length c.slot-r.ensures ∙ (slot-readable (form_of c.args.form) c.args.table.now c.requires.0.reads c.args.slot c.requires.1.0.0).size))
     returns key-requires
     (λ c κs. let s = c.before.before.before.before.before.before in (s.requires.0.reads, ascends s.requires.0.keys (listed s)))
     (λ c. search rules) (λ c. search rules)
-    (λ c. let s = c in omega (arith, s.requires.1.0.0, slots-limit (form_of s.args.form) s.args.table.now s.requires.0.reads))
+    (λ c. omega (arith, c.requires.1.0.0, slots-limit (form_of c.args.form) c.args.table.now c.requires.0.reads))
     (λ c κs. let v = c.before in let s = v.before.before.before.before.before.before.before.before in ((between v).within, room s))
     (λ c. let s = c.before.before.before.before.before.before.before.before.before.before.before.before in omega (arith, room s, s.requires.1.0.0, fewer s.requires.0.keys (listed s) s.requires.1.0.0, slots-limit (form_of s.args.form) s.args.table.now s.requires.0.reads))
     (λ c. search rules) returns-2 (λ c. search rules) returns-3)

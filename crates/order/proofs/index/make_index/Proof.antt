@@ -26,10 +26,9 @@ cleared c = ap length c.clear.ensures ∙ length-replicate (length c.args.list.n
 loop-holds : tie.Need-loop-above-init invariant-loop decreases-loop
 loop-holds c =
     let k = c.before.before.before in
-    let s = k in
-    let f = form_of s.args.form in
-    let n = c.count-above.ensures ∙ count-is f s.args.table.now s.requires.0.reads in (
-      lists-none f s.args.table.now c.count-above.result (length k.clear.new.buf) (omega (arith, n))
+    let f = form_of k.args.form in
+    let n = c.count-above.ensures ∙ count-is f k.args.table.now k.requires.0.reads in (
+      lists-none f k.args.table.now c.count-above.result (length k.clear.new.buf) (omega (arith, n))
           (k.clear.ensures ∙ ap (λ (m : ℕ). replicate m 0) (sym (cleared k))),
       omega (arith, n),
       refl,
@@ -37,23 +36,19 @@ loop-holds c =
 
 enter-requires : tie.Need-enter-n-requires invariant-loop decreases-loop
 enter-requires c κs =
-    let l = c in
-    let k = l.before.before.before.before.before.before in
-    let s = k in
-    let v = l.loop-above.invariant in
-    let one_down : l.loop-above.above ≡ l.loop-above.above - 1 + 1 = omega (arith, c.loop-above-test.true) in
-    (s.requires.0, ((omega (arith, c.loop-above-test.true, v.1), omega (arith, s.requires.1, cleared k, v.2)), lists-as one_down (sym v.2) v.0))
+    let k = c.before.before.before.before.before.before in
+    let v = c.loop-above.invariant in
+    let one_down : c.loop-above.above ≡ c.loop-above.above - 1 + 1 = omega (arith, c.loop-above-test.true) in
+    (k.requires.0, ((omega (arith, c.loop-above-test.true, v.1), omega (arith, k.requires.1, cleared k, v.2)), lists-as one_down (sym v.2) v.0))
 
 loop-again : tie.Need-loop-above-preserved invariant-loop decreases-loop
 loop-again c =
-    let e = c in
-    let v = e.loop-above.invariant in
-    (lists-as refl v.2 e.enter-n.ensures, omega (arith, v.1), e.enter-n.auto.list ∙ v.2)
+    let v = c.loop-above.invariant in
+    (lists-as refl v.2 c.enter-n.ensures, omega (arith, v.1), c.enter-n.auto.list ∙ v.2)
 
 returns : tie.Need-returns invariant-loop decreases-loop
 returns c =
-    let l = c in
-    lists-as (omega (arith, c.loop-above-test.false)) (cleared l.before.before.before.before.before) l.loop-above.invariant.0
+    lists-as (omega (arith, c.loop-above-test.false)) (cleared c.before.before.before.before.before) c.loop-above.invariant.0
 
 pub make_index_spec : {M : Type 1} → statement M
 make_index_spec =

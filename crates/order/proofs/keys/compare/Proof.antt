@@ -18,43 +18,34 @@ decreases-loop a b i₀ i = length a - i
 
 returns : tie.Need-returns-then-b-i invariant-loop decreases-loop
 returns c =
-    let l = c in
-    let a = l.args in
-    sym (l.loop-i.invariant ∙ compared-longer a.a.now a.b.now l.loop-i.i c.loop-i-test.true c.if-b-i.true)
+    let a = c.args in
+    sym (c.loop-i.invariant ∙ compared-longer a.a.now a.b.now c.loop-i.i c.loop-i-test.true c.if-b-i.true)
 
 returns-2 : tie.Need-returns-then-a-i invariant-loop decreases-loop
 returns-2 c =
-    let e = c in
-    let l = e in
-    let a = l.args in
-    let i = l.loop-i.i in
+    let a = c.args in
+    let i = c.loop-i.i in
     sym
-    (l.loop-i.invariant
-    ∙ (compared_at a.a.now a.b.now i e.loop-i-test.true e.if-b-i.false ∙ rw (lt-ltb (get_or a.a.now i 0) (get_or a.b.now i 0) c.if-a-i.true)))
+    (c.loop-i.invariant
+    ∙ (compared_at a.a.now a.b.now i c.loop-i-test.true c.if-b-i.false ∙ rw (lt-ltb (get_or a.a.now i 0) (get_or a.b.now i 0) c.if-a-i.true)))
 
 returns-3 : tie.Need-returns-then-b-i-2 invariant-loop decreases-loop
 returns-3 c =
-    let f = c in
-    let e = f in
-    let l = e in
-    let a = l.args in
-    let i = l.loop-i.i in
+    let a = c.args in
+    let i = c.loop-i.i in
     sym
-    (l.loop-i.invariant
-    ∙ (compared_at a.a.now a.b.now i e.loop-i-test.true e.if-b-i.false
-    ∙ rw (le-ltb (get_or a.a.now i 0) (get_or a.b.now i 0) f.if-a-i.false, lt-ltb (get_or a.b.now i 0) (get_or a.a.now i 0) c.if-b-i-2.true)))
+    (c.loop-i.invariant
+    ∙ (compared_at a.a.now a.b.now i c.loop-i-test.true c.if-b-i.false
+    ∙ rw (le-ltb (get_or a.a.now i 0) (get_or a.b.now i 0) c.if-a-i.false, lt-ltb (get_or a.b.now i 0) (get_or a.a.now i 0) c.if-b-i-2.true)))
 
 loop-again : tie.Need-loop-i-preserved invariant-loop decreases-loop
 loop-again c =
-    let f = c in
-    let e = f in
-    let l = e in
-    let a = l.args in
-    let i = l.loop-i.i in
+    let a = c.args in
+    let i = c.loop-i.i in
     let one_on : i + 1 ≡ suc i = omega arith in
-    l.loop-i.invariant
-    ∙ (compared_at a.a.now a.b.now i e.loop-i-test.true e.if-b-i.false
-    ∙ rw (le-ltb (get_or a.a.now i 0) (get_or a.b.now i 0) f.if-a-i.false, le-ltb (get_or a.b.now i 0) (get_or a.a.now i 0) c.if-b-i-2.false, one_on))
+    c.loop-i.invariant
+    ∙ (compared_at a.a.now a.b.now i c.loop-i-test.true c.if-b-i.false
+    ∙ rw (le-ltb (get_or a.a.now i 0) (get_or a.b.now i 0) c.if-a-i.false, le-ltb (get_or a.b.now i 0) (get_or a.a.now i 0) c.if-b-i-2.false, one_on))
 
 pub compare_spec : {M : Type 1} → statement M
 compare_spec =
@@ -62,5 +53,5 @@ compare_spec =
     (tie.spec
     invariant-loop decreases-loop (λ c. refl) returns (λ c. search rules) (λ c. search rules) returns-2 (λ c. search rules) (λ c. search rules) returns-3
     (λ c. search rules) (λ c. search rules) loop-again
-    (λ c. let l = c in let a = l.args in sym (l.loop-i.invariant ∙ compared-ends a.a.now a.b.now l.loop-i.i (omega arith) c.if-b-i-3.true))
-    (λ c. let l = c in let a = l.args in sym (l.loop-i.invariant ∙ compared-shorter a.a.now a.b.now l.loop-i.i (omega arith) c.if-b-i-3.false)))
+    (λ c. let a = c.args in sym (c.loop-i.invariant ∙ compared-ends a.a.now a.b.now c.loop-i.i (omega arith) c.if-b-i-3.true))
+    (λ c. let a = c.args in sym (c.loop-i.invariant ∙ compared-shorter a.a.now a.b.now c.loop-i.i (omega arith) c.if-b-i-3.false)))

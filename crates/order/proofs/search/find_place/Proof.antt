@@ -26,14 +26,11 @@ middle l = let a = l.args in key_at_place (form_of a.form) a.table.now a.list.no
 
 -- the comparison with the key in the middle
 told : (c : tie.After-compare invariant-loop decreases-loop)
-    → let l = c in
-    let a = l.args in
-    Stated a.key.now (key_at_place (form_of a.form) a.table.now a.list.now (l.loop-low.low + (l.loop-low.high - l.loop-low.low) / 2)) c.compare.result
+    → let a = c.args in
+    Stated a.key.now (key_at_place (form_of a.form) a.table.now a.list.now (c.loop-low.low + (c.loop-low.high - c.loop-low.low) / 2)) c.compare.result
 told c =
     let k = c in
-    let r = k in
-    let l = r in
-    let a = l.args in
+    let a = k.args in
     let m = key_at_place (form_of a.form) a.table.now a.list.now (l.loop-low.low + (l.loop-low.high - l.loop-low.low) / 2) in
     let e : c.compare.result ≡ compared a.key.now m =
     c.compare.ensures ∙ ap (compared a.key.now) (k.key.ensures ∙ ap (λ (x : Record). x.key) r.record_at-r.ensures.is) in
@@ -41,15 +38,12 @@ told c =
 
 -- the place in the middle is one of the first n, and of the list
 inside : (c : tie.In-loop-low invariant-loop decreases-loop)
-    → let l = c in
-    let a = l.args in
-    let m = l.loop-low.low + (l.loop-low.high - l.loop-low.low) / 2 in
-    (l.loop-low.low ≤ m) × (m < l.loop-low.high) × (m < a.n) × (m < length a.list.now)
+    → let a = c.args in
+    let m = c.loop-low.low + (c.loop-low.high - c.loop-low.low) / 2 in
+    (c.loop-low.low ≤ m) × (m < c.loop-low.high) × (m < a.n) × (m < length a.list.now)
 inside c =
-    let l = c in
-    let s = l in
-    let h = l.loop-low.invariant in
-    (omega arith, omega (arith, c.loop-low-test.true), omega (arith, c.loop-low-test.true, h.within), omega (arith, c.loop-low-test.true, h.within, s.requires.1.room))
+    let h = c.loop-low.invariant in
+    (omega arith, omega (arith, c.loop-low-test.true), omega (arith, c.loop-low-test.true, h.within), omega (arith, c.loop-low-test.true, h.within, c.requires.1.room))
 
 loop-again : tie.Need-loop-low-preserved-in-Earlier invariant-loop decreases-loop
 loop-again c =

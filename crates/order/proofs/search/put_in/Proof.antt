@@ -6,10 +6,8 @@ use Rattle.order.proofs.search.put_in.Tie as tie
 
 returns : tie.Need-returns
 returns c =
-    let m = c in
-    let s = m in
-    let a = s.args in
-    put-moved a.list.now m.move_up.new.buf a.n a.place a.number s.requires.0 s.requires.1 m.move_up.ensures
+    let a = c.args in
+    put-moved a.list.now c.move_up.new.buf a.n a.place a.number c.requires.0 c.requires.1 c.move_up.ensures
 
 pub put_in_spec : {M : Type 1} → statement M
 put_in_spec =

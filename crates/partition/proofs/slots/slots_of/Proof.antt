@@ -8,24 +8,22 @@ use Rattle.partition.proofs.Sides.{covers-owner, covers-installer, covers-whole}
 use Rattle.partition.proofs.slots.slots_of.Statement.{statement}
 use Rattle.partition.proofs.slots.slots_of.Tie as tie
 
-returns : tie.Need-returns
+returns : tie.Need-returns-in-Whole
 returns c =
-    let a = c.before.before.before.args in
-    subst (λ (p : Party). Covers (model_view (record { party = p; boundary = a.view.boundary })) a.n (record { first = 0; end = a.n })) (sym c.enum_told.given.1) (covers-whole a.n)
+    let a = c.args in
+    subst (λ (p : Party). Covers (model_view (record { party = p; boundary = a.view.boundary })) a.n (record { first = 0; end = a.n })) (sym c.in-Whole.is) (covers-whole a.n)
 
-returns-2 : tie.Need-returns-2
+returns-2 : tie.Need-returns-in-Owner
 returns-2 c =
-    let l = c.before.before in
-    let a = l.before.args in
-    subst (λ (p : Party). Covers (model_view (record { party = p; boundary = a.view.boundary })) a.n (record { first = 0; end = l.lower.result })) (sym c.enum-told2.given.1)
-    (covers-owner a.view.boundary a.n l.lower.result l.lower.ensures)
+    let a = c.args in
+    subst (λ (p : Party). Covers (model_view (record { party = p; boundary = a.view.boundary })) a.n (record { first = 0; end = c.lower-boundary.result })) (sym c.in-Owner.is)
+    (covers-owner a.view.boundary a.n c.lower-boundary.result c.lower-boundary.ensures)
 
-returns-3 : tie.Need-returns-3
+returns-3 : tie.Need-returns-in-Installer
 returns-3 c =
-    let l = c.before.before in
-    let a = l.before.args in
-    subst (λ (p : Party). Covers (model_view (record { party = p; boundary = a.view.boundary })) a.n (record { first = l.lower.result; end = a.n })) (sym c.enum-told3.given.1)
-    (covers-installer a.view.boundary a.n l.lower.result l.lower.ensures)
+    let a = c.args in
+    subst (λ (p : Party). Covers (model_view (record { party = p; boundary = a.view.boundary })) a.n (record { first = c.lower-boundary.result; end = a.n })) (sym c.in-Installer.is)
+    (covers-installer a.view.boundary a.n c.lower-boundary.result c.lower-boundary.ensures)
 
-pub slots-of-spec : {M : Type 1} → statement M
-slots-of-spec = tie.close (tie.spec (λ c κs. search rules) (λ c. search rules) (λ c. search rules) (λ c. search rules) returns returns-2 returns-3)
+pub slots_of_spec : {M : Type 1} → statement M
+slots_of_spec = tie.close (tie.spec (λ c κs. search rules) (λ c. search rules) (λ c. search rules) (λ c. search rules) returns returns-2 returns-3)

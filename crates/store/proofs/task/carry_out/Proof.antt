@@ -25,35 +25,35 @@ use Rattle.store.proofs.task.carry_out.Tie as tie
 
 -- ---- the places of the calls
 
-abbrev start : tie.After-word-or-empty → tie.Start
+abbrev start : tie.After-word_or_empty-key → tie.Start
 start w = w.before.before.before.before
 
-abbrev keyed : tie.After-subcommands-in → tie.After-word-or-empty
-keyed c = c.before.before.before
+abbrev keyed : tie.After-subcommands_in → tie.After-word_or_empty-key
+keyed c = c.before.before
 
 -- ---- what is known
 
 -- what stands under the key that is handed on
-under : (w : tie.After-word-or-empty) → let s = start w in let g = s.args.target in
-    IsUnder (shape_of g) s.args.table.now g.time w.word-or-empty.result.now g.found
+under : (w : tie.After-word_or_empty-key) → let s = start w in let g = s.args.target in
+    IsUnder (shape_of g) s.args.table.now g.time w.word_or_empty-key.result.now g.found
 under w =
     let s = start w in let g = s.args.target in
-    subst (λ (k : List ℕ). IsUnder (shape_of g) s.args.table.now g.time k g.found) (sym w.word-or-empty.ensures) s.pre.1.under
+    subst (λ (k : List ℕ). IsUnder (shape_of g) s.args.table.now g.time k g.found) (sym w.word_or_empty-key.ensures) s.requires.1.under
 
 -- a target is ready where its command is known
-ready : (w : tie.After-word-or-empty) {c : Command} → let s = start w in Known (shape_of s.args.target) (words_of s.args.command.now) c
-    → Ready s.args.target w.word-or-empty.result.now (held s.args.table.now s.args.reply.now)
-ready w k = record { under = under w; key = omega (arith, ap length w.word-or-empty.ensures, ap length k.key, k.key-to); room = (start w).requires.1.room }
+ready : (w : tie.After-word_or_empty-key) {c : Command} → let s = start w in Known (shape_of s.args.target) (words_of s.args.command.now) c
+    → Ready s.args.target w.word_or_empty-key.result.now (held s.args.table.now s.args.reply.now)
+ready w k = record { under = under w; key = omega (arith, ap length w.word_or_empty-key.ensures, ap length k.key, k.key-to); room = (start w).requires.1.room }
 
 -- the action that is done
-acted : (c : tie.After-task) → let s = start c.before.before in let ws = words_of s.args.command.now in Known (shape_of s.args.target) ws (model_command ws c.task.given.0.0)
+acted : (c : tie.In-Action) → let s = start c.before in let ws = words_of s.args.command.now in Known (shape_of s.args.target) ws (model_command ws c.in-Action.action)
 acted c =
-    let s = start c.before.before in
-    parses.known _ _ _ s.pre.1.parsed (ap (checked_task (words_of s.args.command.now)) c.task.given.1)
+    let s = start c.before in
+    parses.known _ _ _ s.requires.1.parsed (ap (checked_task (words_of s.args.command.now)) c.in-Action.is)
 
 -- BITFIELD, whose subcommands are read
-read : (c : tie.After-subcommands-in) → let s = start (keyed c) in let ws = words_of s.args.command.now in parse_subcommands ws ≡ parse (shape_of s.args.target) s.args.target.time ws
-read c = let s = start (keyed c) in ap (checked_task (words_of s.args.command.now)) (sym c.before.enum_told.given.1) ∙ s.pre.1.parsed
+read : (c : tie.After-subcommands_in) → let s = start (keyed c) in let ws = words_of s.args.command.now in parse_subcommands ws ≡ parse (shape_of s.args.target) s.args.target.time ws
+read c = let s = start (keyed c) in ap (checked_task (words_of s.args.command.now)) (sym c.in-Bitfield.is) ∙ s.requires.1.parsed
 
 -- what a task does, by its case
 by-task : (s : tie.Start) {k : Task} → s.args.task ≡ k → let a = s.args in effect_in a.target a.task a.table.now a.command.now ≡ effect_in a.target k a.table.now a.command.now
@@ -61,50 +61,50 @@ by-task s = ap (λ (k : Task). effect_in s.args.target k s.args.table.now s.args
 
 -- ---- the needs
 
-returns-2 : tie.Need-returns-2
+returns-2 : tie.Need-returns-in-Refused
 returns-2 c =
-    let e = c.before.before in let n = e.before.before.before in let r = n.before.before in let s = start (keyed r) in
+    let r = c.before.before.before.before.before in let s = start (keyed r) in
     does-refuse _ s.args.table.now _ _ _ _
-    (by-task s r.before.enum_told.given.1 ∙ fields-refused (words_of s.args.command.now) _ r.subcommands-in.ensures s.args.table.now s.args.target n.number.given.1)
-    e.error.ensures
+    (by-task s r.in-Bitfield.is ∙ fields-refused (words_of s.args.command.now) _ r.subcommands_in.ensures s.args.table.now s.args.target c.in-Refused.is)
+    c.error.ensures
 
 execute-requires : tie.Need-execute-requires
 execute-requires c κs =
-    let v = c.before.before in let a = v.before.before in
-    (ready a.before.before (acted a), action-fits a.task.given.0.0 (acted a) v.word-or-empty2.ensures)
+    let a = c.before.before.before in
+    (ready a.before (acted a), action-fits a.in-Action.action (acted a) c.word_or_empty-value.ensures)
 
 error-requires : tie.Need-error-requires
 error-requires c κs =
-    let n = c.before.before in let r = n.before.before in let s = start (keyed r) in
-    let p = refused _ _ r.subcommands-in.ensures _ _ (read r) n.number.given.1 in
-    (error-in s.pre.1.room n.number.given.0.0, omega (arith, p.least), omega (arith, p.most))
+    let r = c.before.before in let s = start (keyed r) in
+    let p = refused _ _ r.subcommands_in.ensures _ _ (read r) c.in-Refused.is in
+    (error-in s.requires.1.room c.in-Refused.number, omega (arith, p.least), omega (arith, p.most))
 
 bitfield-requires : tie.Need-bitfield-requires
 bitfield-requires c κs =
-    let n = c.before.before.before in let r = n.before.before in let s = start (keyed r) in (
-      ready (keyed r) (known _ _ r.subcommands-in.ensures _ _ (read r) n.subs.given.1),
-      fields_fit _ _ r.subcommands-in.ensures _ _ (read r) n.subs.given.1 (few_words _ _ s.pre.0.0.decoded),
+    let r = c.before.before.before in let s = start (keyed r) in (
+      ready (keyed r) (known _ _ r.subcommands_in.ensures _ _ (read r) c.in-Subs.is),
+      fields_fit _ _ r.subcommands_in.ensures _ _ (read r) c.in-Subs.is (few_words _ _ s.requires.0.0.decoded),
     )
 
-returns : tie.Need-returns
+returns : tie.Need-returns-in-Action
 returns c =
-    let x = c.before.before.before.before in let v = x.before.before.before in let a = v.before.before in let w = a.before.before in
+    let w = c.before.before.before.before.before.before.before.before.before in
     let s = start w in let g = s.args.target in
     does-as
-    (by-task s a.task.given.1
-    ∙ action-done s.args.table.now g (words_of s.args.command.now) a.task.given.0.0 w.word-or-empty.ensures v.word-or-empty2.ensures (under w))
-    x.execute.ensures
+    (by-task s c.in-Action.is
+    ∙ action-done s.args.table.now g (words_of s.args.command.now) c.in-Action.action w.word_or_empty-key.ensures c.word_or_empty-value.ensures (under w))
+    c.execute.ensures
 
-returns-3 : tie.Need-returns-3
+returns-3 : tie.Need-returns-in-Subs
 returns-3 c =
-    let b = c.before.before.before.before in let n = b.before.before.before.before in let r = n.before.before in let w = keyed r in let s = start w in
+    let r = c.before.before.before.before.before.before.before.before in let w = keyed r in let s = start w in
     does-as
-    (by-task s r.before.enum_told.given.1
-    ∙ fields-done (words_of s.args.command.now) _ r.subcommands-in.ensures s.args.table.now s.args.target n.subs.given.1 w.word-or-empty.ensures (under w))
-    b.bitfield.ensures
+    (by-task s r.in-Bitfield.is
+    ∙ fields-done (words_of s.args.command.now) _ r.subcommands_in.ensures s.args.table.now s.args.target c.in-Subs.is w.word_or_empty-key.ensures (under w))
+    c.bitfield.ensures
 
-pub carry-out-spec : {M : Type 1} → statement M
-carry-out-spec =
+pub carry_out_spec : {M : Type 1} → statement M
+carry_out_spec =
     tie.close
     (tie.spec
     (λ c κs. search rules) (λ c. search rules) (λ c κs. search rules) execute-requires

@@ -27,14 +27,11 @@ typed c e =
     ap (λ (x : Checked IntType). x >>= λ i. given 9 (of b i)) (ap checked_type_read (sym e) ∙ c.type_in.ensures)
     ∙ given-then 9 (type_in b.args.int.now) (of b)
 
-placed : (c : tie.After-offset_in) {x : OffsetRead} → c.offset_in.result ≡ x → let i = c in let b = i in
-    (checked_offset_read x >>= λ at. ok (field (model_int i.in-Known.int) at)) ≡ given 9 (field_in b.args.int.now b.args.offset.now)
+placed : (c : tie.After-offset_in) {x : OffsetRead} → c.offset_in.result ≡ x → (checked_offset_read x >>= λ at. ok (field (model_int c.in-Known.int) at)) ≡ given 9 (field_in c.args.int.now c.args.offset.now)
 placed c e =
-    let i = c in
-    let b = i in
-    let int = model_int i.in-Known.int in
+    let int = model_int c.in-Known.int in
     ap (λ (x : Checked ℕ). x >>= λ at. ok (field int at)) (ap checked_offset_read (sym e) ∙ c.offset_in.ensures)
-    ∙ (given-then 9 (offset_in int b.args.offset.now) (λ at. some (field int at)) ∙ typed i.before.before i.in-Known.is)
+    ∙ (given-then 9 (offset_in int c.args.offset.now) (λ at. some (field int at)) ∙ typed c.before.before c.in-Known.is)
 
 pub field_in_spec : {M : Type 1} → statement M
 field_in_spec =

@@ -38,25 +38,23 @@ module _ (c : tie.After-read_below) where
 -- a width of 8 bits and a number of 32
 mul-t17 : tie.Need-overflow_mul-result
 mul-t17 c =
-    let n = c in
-    let r = n.before.before in
+    let r = c.before.before in
     let width : (start r).args.int.width ≤ 255 = omega arith in
-    record { fits = omega (arith, mul-le-mul_right n.in-Value.n width, below-limit (drop 1 (start r).args.w.now) (number r n.in-Value.is)) }
+    record { fits = omega (arith, mul-le-mul_right c.in-Value.n width, below-limit (drop 1 (start r).args.w.now) (number r c.in-Value.is)) }
 
 -- the number of the whole word
 plain : (c : tie.After-read_below-2) {x : Natural} → c.read_below-2.result ≡ x → let a = c.args in
     offset_in (model_int a.int) a.w.now ≡ said_by x
 plain c e =
-    let h = c in
-    let a = h.args in
-    offset-plain (model_int a.int) a.w.now h.if-w-eq0.false h.if-w-eq35.false ∙ said (read_below offset_limit a.w.now) c.read_below-2.ensures e
+    let a = c.args in
+    offset-plain (model_int a.int) a.w.now c.if-w-eq0.false c.if-w-eq35.false ∙ said (read_below offset_limit a.w.now) c.read_below-2.ensures e
 
 pub offset_in_spec : {M : Type 1} → statement M
 offset_in_spec =
     tie.close
     (tie.spec
     (λ c κs. search rules)
-    (λ c. let d = c in sym (ap (given 9) (offset-digit _ d.args.w.now _ d.only_digit-digit.ensures (omega (arith, c.if-digit-lt10.true)))))
+    (λ c. sym (ap (given 9) (offset-digit _ c.args.w.now _ c.only_digit-digit.ensures (omega (arith, c.if-digit-lt10.true)))))
     (λ c. sym (ap (given 9) (offset-empty _ _ c.if-w-eq0.true)))
     (λ c. search rules)
     (λ c. search rules)
@@ -68,9 +66,9 @@ offset_in_spec =
     (λ c. sym (ap (given 9) (in-fields c.before c.in_default.is)))
     (λ c. search rules)
     mul-t17
-    (λ c. let n = c in sym (ap (given 9) (in-fields n.before.before n.in-Value.is)))
+    (λ c. sym (ap (given 9) (in-fields c.before.before c.in-Value.is)))
     (λ c κs. search rules)
     (λ c. search rules)
     (λ c. search rules)
     (λ c. sym (ap (given 9) (plain c.before c.in_default-read_below.is)))
-    (λ c. let n = c in sym (ap (given 9) (plain n.before n.in-Value-read_below.is))))
+    (λ c. sym (ap (given 9) (plain c.before c.in-Value-read_below.is))))

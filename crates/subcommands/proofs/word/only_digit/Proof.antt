@@ -23,5 +23,5 @@ only_digit_spec =
     tie.close
     (tie.spec
     (λ c κs. search rules)
-    (λ c. let t = c in c.digit_at.ensures ∙ one t.args.w.now t.if-w-eq1.true)
+    (λ c. c.digit_at.ensures ∙ one c.args.w.now c.if-w-eq1.true)
     (λ c. other c.args.w.now c.if-w-eq1.false))

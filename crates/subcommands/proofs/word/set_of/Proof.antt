@@ -30,6 +30,5 @@ set_of_spec =
     (tie.spec
     (λ c κs. search rules)
     (λ c. sym (ap (given 9) (tested c.before (c.if-not-fits.true))))
-    (λ c. let a = c in
-    ap (λ (z : ℤ). ok (set (model_field a.args.field) z ∷ [])) (back_is a.ranges.number)
+    (λ c. ap (λ (z : ℤ). ok (set (model_field c.args.field) z ∷ [])) (back_is c.ranges.number)
     ∙ sym (ap (given 9) (tested c.before (c.if-not-fits.false)))))

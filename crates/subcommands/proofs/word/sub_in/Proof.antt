@@ -81,10 +81,9 @@ returns-2 c =
 -- no number
 returns-3 : tie.Need-returns-in_default-read_signed
 returns-3 c =
-    let r = c in
-    let k = r.before.before.before in
-    sym (ap (given 9) (no_number (start (fielded k)).args.operation r.in_default-operation.in_default-operation-own.keys2 (model_field (field k))))
-    ∙ acted k (signed-bad (read_signed (start (fielded k)).args.number.now) (sym c.in_default-read_signed.is ∙ r.read_signed.ensures))
+    let k = c.before.before.before in
+    sym (ap (given 9) (no_number (start (fielded k)).args.operation c.in_default-operation.in_default-operation-own.keys2 (model_field (field k))))
+    ∙ acted k (signed-bad (read_signed (start (fielded k)).args.number.now) (sym c.in_default-read_signed.is ∙ c.read_signed.ensures))
 
 -- SET
 set-of-requires : tie.Need-set_of-requires
@@ -96,11 +95,10 @@ set-of-requires c κs =
 
 returns-4 : tie.Need-returns-in-Set
 returns-4 c =
-    let e = c in
-    let n = e.before.before in
+    let n = c.before.before in
     c.set_of.ensures
-    ∙ (ap (λ (z : ℤ). given 9 (set_by (field (known n)) z)) (back_is (fits e.before.before))
-    ∙ (ap (given 9) (sets (field (known n)) e.in-Set.is (number n)) ∙ numbered n))
+    ∙ (ap (λ (z : ℤ). given 9 (set_by (field (known n)) z)) (back_is (fits c.before.before))
+    ∙ (ap (given 9) (sets (field (known n)) c.in-Set.is (number n)) ∙ numbered n))
 
 -- INCRBY
 returns-5 : tie.Need-returns

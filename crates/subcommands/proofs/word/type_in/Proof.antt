@@ -16,24 +16,21 @@ use Rattle.subcommands.proofs.word.type_in.Tie as tie
 
 returns-2 : tie.Need-returns-then-w-eq105
 returns-2 c =
-    let t = c in
     c.type_of.ensures
     ∙ ap (given 9)
     (ap (λ (n : ℕ). only is_int_type (some (type_of true n))) c.width_in.ensures
-    ∙ type-known _ (omega (arith, t.if-w-eq0.false)) (ap sign_in t.if-w-eq105.true))
+    ∙ type-known _ (omega (arith, c.if-w-eq0.false)) (ap sign_in c.if-w-eq105.true))
 
 returns-3 : tie.Need-returns-then-w-eq117
 returns-3 c =
-    let t = c in
     c.type_of-then-w-eq117.ensures
     ∙ ap (given 9)
     (ap (λ (n : ℕ). only is_int_type (some (type_of false n))) c.width_in-then-w-eq117.ensures
-    ∙ type-known _ (omega (arith, t.if-w-eq0.false)) (ap sign_in t.if-w-eq117.true))
+    ∙ type-known _ (omega (arith, c.if-w-eq0.false)) (ap sign_in c.if-w-eq117.true))
 
 returns-4 : tie.Need-returns
 returns-4 c =
-    let i = c in
-    sym (ap (given 9) (type-unknown _ (omega (arith, i.if-w-eq0.false)) (letter-other i.if-w-eq105.false c.if-w-eq117.false)))
+    sym (ap (given 9) (type-unknown _ (omega (arith, c.if-w-eq0.false)) (letter-other c.if-w-eq105.false c.if-w-eq117.false)))
 
 pub type_in_spec : {M : Type 1} → statement M
 type_in_spec =

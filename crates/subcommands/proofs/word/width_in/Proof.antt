@@ -6,33 +6,27 @@ use Rattle.subcommands.proofs.word.width_in.Statement.{statement}
 use Rattle.subcommands.proofs.word.width_in.Tie as tie
 
 returns : tie.Need-returns-then-first-gt9
-returns c = let f = c in width-none _ f.digit_at-first.ensures c.if-first-gt9.true
+returns c = width-none _ c.digit_at-first.ensures c.if-first-gt9.true
 
 returns-2 : tie.Need-returns-then-w-eq2
-returns-2 c = let f = c in width_one _ f.digit_at-first.ensures c.if-first-gt9.false c.if-w-eq2.true
+returns-2 c = width_one _ c.digit_at-first.ensures c.if-first-gt9.false c.if-w-eq2.true
 
 returns-3 : tie.Need-returns-then-second-gt9
 returns-3 c =
-    let b = c in
-    width-short _ b.digit_at-first.ensures b.if-first-gt9.false c.digit_at-second.ensures b.if-w-eq2.false c.if-second-gt9.true
+    width-short _ c.digit_at-first.ensures c.if-first-gt9.false c.digit_at-second.ensures c.if-w-eq2.false c.if-second-gt9.true
 
 returns-4 : tie.Need-returns-then-w-ne3
 returns-4 c =
-    let b = c in
-    width-long _ b.digit_at-first.ensures b.if-first-gt9.false c.digit_at-second.ensures b.if-w-eq2.false c.if-w-ne3.true
+    width-long _ c.digit_at-first.ensures c.if-first-gt9.false c.digit_at-second.ensures c.if-w-eq2.false c.if-w-ne3.true
 
 returns-5 : tie.Need-returns-then-first-eq0
 returns-5 c =
-    let t = c in
-    let b = t in
-    width-zero _ b.digit_at-first.ensures b.if-first-gt9.false t.digit_at-second.ensures b.if-w-eq2.false t.if-second-gt9.false c.if-w-ne3.false
-    (omega (arith, c.if-first-eq0.true, b.if-first-gt9.false))
+    width-zero _ c.digit_at-first.ensures c.if-first-gt9.false c.digit_at-second.ensures c.if-w-eq2.false c.if-second-gt9.false c.if-w-ne3.false
+    (omega (arith, c.if-first-eq0.true, c.if-first-gt9.false))
 
 returns-6 : tie.Need-returns
 returns-6 c =
-    let t = c in
-    let b = t in
-    width_two _ b.digit_at-first.ensures b.if-first-gt9.false t.digit_at-second.ensures b.if-w-eq2.false t.if-second-gt9.false c.if-w-ne3.false
+    width_two _ c.digit_at-first.ensures c.if-first-gt9.false c.digit_at-second.ensures c.if-w-eq2.false c.if-second-gt9.false c.if-w-ne3.false
     (λ z. omega (arith, z, c.if-first-eq0.false))
 
 pub width_in_spec : {M : Type 1} → statement M

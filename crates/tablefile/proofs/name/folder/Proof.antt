@@ -10,34 +10,34 @@ use Rattle.tablefile.proofs.Slashes.{other, slash}
 use Rattle.tablefile.proofs.name.folder.Statement.{statement}
 use Rattle.tablefile.proofs.name.folder.Tie as tie
 
-abbrev invariant-loop : tie.invariant-loop
+abbrev invariant-loop : tie.invariant-loop-n
 invariant-loop path n₀ n = (n ≤ length path) × (after_slash path ≡ after_slash (take n path))
 
-abbrev decreases-loop : tie.decreases-loop
+abbrev decreases-loop : tie.decreases-loop-n
 decreases-loop path n₀ n = n
 
-returns : tie.Need-returns invariant-loop decreases-loop
+returns : tie.Need-returns-then-path-n-eq47 invariant-loop decreases-loop
 returns c =
-    let l = c.before.before.before in
-    let p = l.before.args.path.now in
-    (sym (l.loop.invariant.1 ∙ slash p l.loop.n (omega arith) (omega arith) c.if1.true), search rules)
+    let l = c in
+    let p = l.args.path.now in
+    (sym (l.loop-n.invariant.1 ∙ slash p l.loop-n.n (omega arith) (omega arith) c.if-path-n-eq47.true), search rules)
 
-loop-again : tie.Need-loop-preserved invariant-loop decreases-loop
+loop-again : tie.Need-loop-n-preserved invariant-loop decreases-loop
 loop-again c =
-    let l = c.before.before.before in
-    let p = l.before.args.path.now in
-    (omega arith, l.loop.invariant.1 ∙ other p l.loop.n (omega arith) (omega arith) c.if1.false)
+    let l = c in
+    let p = l.args.path.now in
+    (omega arith, l.loop-n.invariant.1 ∙ other p l.loop-n.n (omega arith) (omega arith) c.if-path-n-eq47.false)
 
-returns-2 : tie.Need-returns-2 invariant-loop decreases-loop
+returns-2 : tie.Need-returns invariant-loop decreases-loop
 unfolding after_slash
 returns-2 c =
-    let l = c.before in
-    let p = l.before.args.path.now in
-    let z : l.loop.n ≡ 0 = omega arith in
-    (sym (l.loop.invariant.1 ∙ ap (λ n. after_slash (take n p)) z), search rules)
+    let l = c in
+    let p = l.args.path.now in
+    let z : l.loop-n.n ≡ 0 = omega arith in
+    (sym (l.loop-n.invariant.1 ∙ ap (λ n. after_slash (take n p)) z), search rules)
 
-pub folder-spec : {M : Type 1} → statement M
-folder-spec =
+pub folder_spec : {M : Type 1} → statement M
+folder_spec =
     tie.close
     (tie.spec
     invariant-loop

@@ -14,9 +14,9 @@ few c = length-nat_text 19 c.args.n (omega (arith, c.ranges.n.fits))
 
 returns : tie.Need-returns
 returns c =
-    let w = c.write-natural.ensures in
-    let size : length c.write-natural.new.0 ≡ 20 = c.write-natural.auto.0 ∙ c.before.write-natural-arg.given.0.1 in
+    let w = c.write_natural.ensures in
+    let size : length c.write_natural.new.buf ≡ 20 = c.write_natural.auto.buf ∙ c.write_natural-arg-1.given.0.1 in
     (w, (omega (arith, few c.before.before, w.place, size), omega (arith, w.place, ap length (wrote-front _ _ _ _ w))))
 
-pub decimal-spec : {M : Type 1} → statement M
-decimal-spec = tie.close (tie.spec (λ c κs. omega (arith, few c.before)) returns)
+pub decimal_spec : {M : Type 1} → statement M
+decimal_spec = tie.close (tie.spec (λ c κs. omega (arith, few c.before)) returns)

@@ -6,22 +6,22 @@ use Rattle.terminal.specs.Escape.{letter, escaped}
 use Rattle.terminal.proofs.escape.put_escaped.Statement.{statement}
 use Rattle.terminal.proofs.escape.put_escaped.Tie as tie
 
-returns : tie.Need-returns
+returns : tie.Need-returns-then-after-eq0
 unfolding escaped
 returns c =
-    let p = c.before.before in
-    let l = p.before.before.before in
-    rw (eq-eqb (letter l.before.before.args.b) 0 (sym l.letter.ensures ∙ p.before.before.if1.true)) p.put-plain.ensures
+    let p = c in
+    let l = p in
+    rw (eq-eqb (letter l.args.b) 0 (sym l.letter-after.ensures ∙ p.if-after-eq0.true)) p.put_plain.ensures
 
-returns-2 : tie.Need-returns-2
+returns-2 : tie.Need-returns
 unfolding escaped
 returns-2 c =
-    let p = c.before.before in
-    let l = p.before.before.before.before in
-    rw (ne_eqb (letter l.before.before.args.b) 0 (λ e. p.before.before.before.if1.false (l.letter.ensures ∙ e)), ← l.letter.ensures) p.put-bytes.ensures
+    let p = c in
+    let l = p in
+    rw (ne_eqb (letter l.args.b) 0 (λ e. p.if-after-eq0.false (l.letter-after.ensures ∙ e)), ← l.letter-after.ensures) p.put_bytes.ensures
 
-pub put-escaped-spec : {M : Type 1} → statement M
-put-escaped-spec =
+pub put_escaped_spec : {M : Type 1} → statement M
+put_escaped_spec =
     tie.close
     (tie.spec
     (λ c κs. search rules)

@@ -4,20 +4,20 @@ use Rattle.terminal.proofs.Escapes.{plain-prints, plain_other}
 use Rattle.terminal.proofs.escape.put_plain.Statement.{statement}
 use Rattle.terminal.proofs.escape.put_plain.Tie as tie
 
-returns : tie.Need-returns
+returns : tie.Need-returns-then-prints
 returns c =
-    let t = c.before.before.before.before.before in
-    rw (plain-prints t.before.before.args.b t.if1.true) c.before.before.put-bytes.ensures
+    let t = c in
+    rw (plain-prints t.args.b t.if-prints.true) c.put_bytes.ensures
 
-returns-2 : tie.Need-returns-2
+returns-2 : tie.Need-returns
 returns-2 c =
-    let p = c.before.before in
-    let l = p.before.before.before in
-    let t = l.before.before in
-    rw (plain_other t.before.before.args.b t.if1.false, ← l.before.hex-digit.ensures, ← l.hex-digit2.ensures) p.put-bytes2.ensures
+    let p = c in
+    let l = p in
+    let t = l in
+    rw (plain_other t.args.b t.if-prints.false, ← l.hex_digit-high.ensures, ← l.hex_digit-low.ensures) p.put_bytes-2.ensures
 
-pub put-plain-spec : {M : Type 1} → statement M
-put-plain-spec =
+pub put_plain_spec : {M : Type 1} → statement M
+put_plain_spec =
     tie.close
     (tie.spec
     (λ c. search rules)

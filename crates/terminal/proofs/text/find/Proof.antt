@@ -5,10 +5,10 @@ use borrow.Author.Rules.{rules}
 use Rattle.terminal.proofs.text.find.Statement.{statement}
 use Rattle.terminal.proofs.text.find.Tie as tie
 
-abbrev invariant-loop : tie.invariant-loop
+abbrev invariant-loop : tie.invariant-loop-i
 invariant-loop s from wanted i₀ i = (from ≤ i) × (i ≤ length s)
 
-abbrev decreases-loop : tie.decreases-loop
+abbrev decreases-loop : tie.decreases-loop-i
 decreases-loop s from wanted i₀ i = length s - i
 
 pub find_spec : {M : Type 1} → statement M
