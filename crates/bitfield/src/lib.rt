@@ -85,7 +85,7 @@ pub fn all_end_within(subs: Subs, limit: usize) -> bool
 // Copies the live record's value over the front of a buffer of zeros: how long it is, 0 under an absent key.
 fn load(table: &[u8], target: Target, value: &mut [u8]) -> usize
     requires sound { Sound (shape_of target) table.now target.found }
-    requires value_value { (value.old ≡ replicate (length value.old) 0) × ((shape_of target).value_limit ≤ length value.old) }
+    requires cleared { (value.old ≡ replicate (length value.old) 0) × ((shape_of target).value_limit ≤ length value.old) }
     ensures { Holds (stored_value table.now target) (length value.old) value.new result }
 {
     let found = target.found;
@@ -194,7 +194,7 @@ pub fn run_stored(
     text: &mut [u8],
 ) -> Ran
     requires sound { Sound (shape_of target) table.now target.found }
-    requires value_value { (value.old ≡ replicate (length value.old) 0) × ((shape_of target).value_limit ≤ length value.old) × (length value.old ≤ 128) }
+    requires cleared { (value.old ≡ replicate (length value.old) 0) × ((shape_of target).value_limit ≤ length value.old) × (length value.old ≤ 128) }
     requires all_runnable { AllRunnable (length value.old) (model_subs subs) × (23 * subs.count ≤ length text.old) }
     ensures { LeavesAll (run_subs (model_subs subs) (stored_value table.now target)) (length value.old) value.new text.old text.new result }
 {
