@@ -7,7 +7,7 @@ use mathlib.Core.List.{List, map}
 use mathlib.Core.Option.{none}
 use lib.ListN.{length, take, length-map}
 use Rattle.model.specs.Checked.{refuse, ok, ◌>>=◌}
-use Rattle.model.specs.Table.{Form, Record}
+use Rattle.model.specs.Table.{Form}
 use Rattle.model.specs.Search.{Placed, live_record}
 use Rattle.model.specs.Resp.{scalars_bytes}
 use Rattle.model.specs.Command.{keep}

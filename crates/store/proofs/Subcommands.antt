@@ -18,7 +18,6 @@ use Rattle.command.specs.Subcommand.{model_subs}
 use Rattle.command.specs.declared.subcommand.Subs.{Subs}
 use Rattle.subcommands.specs.Steps.{checked_collected}
 use Rattle.subcommands.specs.declared.Collected.{Collected}
-use Rattle.subcommands.specs.declared.Collected.TheVariants as Collected
 use Rattle.live.specs.declared.Target.{Target}
 use Rattle.live.specs.Under.{IsUnder, shape_of}
 use Rattle.bitfield.proofs.Subcommands.{length-subs}
