@@ -56,7 +56,7 @@ pub fn fetch(rt: &impl Files, path: &[u8], buf: &mut [u8]) -> usize {
 }
 
 // Reads a file that is open to its end, or until the buffer is full.
-fn load_open(rt: &impl Complaints, file: &mut impl Read, path: &[u8], buf: &mut [u8]) -> Loaded {
+fn read_whole(rt: &impl Complaints, file: &mut impl Read, path: &[u8], buf: &mut [u8]) -> Loaded {
     match read_to_end(file, buf) {
         Ok(n) => Loaded::Bytes(n),
         Err(error) => {
@@ -69,7 +69,7 @@ fn load_open(rt: &impl Complaints, file: &mut impl Read, path: &[u8], buf: &mut 
 // Reads a file to its end, or until the buffer is full.
 pub fn load(rt: &(impl Files + Complaints), path: &[u8], buf: &mut [u8]) -> Loaded {
     match open_read(rt, path) {
-        Ok(mut file) => load_open(rt, &mut file, path, buf),
+        Ok(mut file) => read_whole(rt, &mut file, path, buf),
         Err(error) if error.kind() == ErrorKind::NotFound => Loaded::Missing,
         Err(error) => {
             tell(rt, path, error);

@@ -83,7 +83,8 @@ fn make<R: Files + RandomSource>(rt: &R, name: &mut [u8]) -> io::Result<R::File>
             made => return made,
         }
     }
-    Err(io::Error::from(ErrorKind::AlreadyExists))
+    choose(rt, name)?;
+    create(rt, name)
 }
 
 // Makes the new file in a folder, with its name at the start of a buffer.
