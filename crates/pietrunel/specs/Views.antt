@@ -7,7 +7,6 @@ use Rattle.model.specs.Call.{Store, untouched, call_in}
 use Rattle.model.specs.CurrentValue.{Shown, nothing, current_value_in}
 use Rattle.partition.specs.Parts.{model_view}
 use Rattle.pietrunel.specs.declared.view.Named.{Named}
-use Rattle.pietrunel.specs.declared.view.Named.TheVariants as Named
 
 -- 0 the whole table, 1 the owner, 2 the installer
 abbrev pub view_of : (party boundary : ℕ) → Option View

@@ -1,7 +1,5 @@
 -- `pietrunel_current_value` meets its contract: what it says is what `locate` found.
-use mathlib.Core.Path.{◌≡◌, refl, sym, ap, ◌∙◌}
-use mathlib.Core.Bool.{Bool}
-use Prim.Native.Nat.{ℕ}
+use mathlib.Core.Path.{◌≡◌, sym, ap, ◌∙◌}
 use borrow.Author.Rules.{rules}
 use Rattle.model.specs.CurrentValue.{Shown, nothing, in_table, in_command, is_shown, is_in_command, start_of, length_of}
 use Rattle.current.specs.Shows.{model_shown}
