@@ -20,8 +20,8 @@ use Rattle.model.proofs.Rising.{Without}
 use Rattle.model.proofs.Index.{key_in-slot, key_in-at, AllIn, in-entries, entries-in, entries-rising}
 use Rattle.model.proofs.Difference.{record_for-at, Due, difference-unique}
 use Rattle.table.specs.Slots.{slots_of, record_of}
-use Rattle.order.specs.declared.Comparison.{Comparison}
-use Rattle.order.specs.declared.Comparison.TheVariants.{Earlier, Equal, Later}
+use Rattle.std.proofs.Common.{Ordering}
+use Rattle.std.proofs.Common.{Less, Equal, Greater}
 use Rattle.order.specs.Compared.{compared}
 use Rattle.order.proofs.Compared.{Stated, compared-stated}
 use Rattle.difference.specs.Walk.{pick, merge_at, merge, Along, records_from}
@@ -85,7 +85,7 @@ line-above k r [] ls h a = a
 line-above k r (f ∷ fs) ls h a = head-above k (changed r.key (f ∷ fs)) ls h a
 
 -- the lines of r and q, if they have the next keys
-abbrev heads : Comparison → (r : Record) (rest : List Record → List Line) (q : Record) (qs : List Record) → List Line
+abbrev heads : Ordering → (r : Record) (rest : List Record → List Line) (q : Record) (qs : List Record) → List Line
 heads o r rest q qs =
     pick o (removed r.key ∷ rest (q ∷ qs)) (add_line (changed_line r.key (fields_apart r q)) (rest qs)) (added q.key ∷ merge_at r rest qs)
 
@@ -93,10 +93,10 @@ merge_at-above : (r : Record) (rest : List Record → List Line) (rs : List Reco
 merge_at-above r rest rs u k [] a b = head-above k (removed r.key) (rest []) (a r (inl refl)) (u k [] (λ g i. a g (inr i)) b)
 merge_at-above r rest rs u k (q ∷ qs) a b = go (compared r.key q.key) (merge_at-above r rest rs u k qs a (λ g i. b g (inr i)))
   where
-    go : (o : Comparison) → Above line_key k (merge_at r rest qs) → Above line_key k (heads o r rest q qs)
-    go Earlier ih = head-above k (removed r.key) (rest (q ∷ qs)) (a r (inl refl)) (u k (q ∷ qs) (λ g i. a g (inr i)) b)
+    go : (o : Ordering) → Above line_key k (merge_at r rest qs) → Above line_key k (heads o r rest q qs)
+    go Less ih = head-above k (removed r.key) (rest (q ∷ qs)) (a r (inl refl)) (u k (q ∷ qs) (λ g i. a g (inr i)) b)
     go Equal ih = line-above k r (fields_apart r q) (rest qs) (a r (inl refl)) (u k qs (λ g i. a g (inr i)) (λ g i. b g (inr i)))
-    go Later ih = head-above k (added q.key) (merge_at r rest qs) (b q (inl refl)) ih
+    go Greater ih = head-above k (added q.key) (merge_at r rest qs) (b q (inl refl)) ih
 
 merge-above : (rs : List Record) → Upward (merge rs) rs
 unfolding merge
@@ -124,10 +124,10 @@ merge_at-rising r rest rs u h (q ∷ qs) a b =
     both [] e = h qs b.1
     both (f ∷ fs) e = (u r.key qs a.0 (above-is r.key q.key qs e b.0), h qs b.1)
 
-    go : (o : Comparison) → Stated r.key q.key o → Rising line_key (merge_at r rest qs) → Rising line_key (heads o r rest q qs)
-    go Earlier p ih = (u r.key (q ∷ qs) a.0 (over r.key q qs b p), h (q ∷ qs) b)
+    go : (o : Ordering) → Stated r.key q.key o → Rising line_key (merge_at r rest qs) → Rising line_key (heads o r rest q qs)
+    go Less p ih = (u r.key (q ∷ qs) a.0 (over r.key q qs b p), h (q ∷ qs) b)
     go Equal p ih = both (fields_apart r q) p
-    go Later p ih = (merge_at-above r rest rs u q.key qs (over q.key r rs a p) b.0, ih)
+    go Greater p ih = (merge_at-above r rest rs u q.key qs (over q.key r rs a p) b.0, ih)
 
 merge-rising : (rs qs : List Record) → Rising record_key rs → Rising record_key qs → Rising line_key (merge rs qs)
 unfolding merge
@@ -183,13 +183,13 @@ merge_at-looks k r rest rs a h (q ∷ qs) b =
     one_key true = refl
     one_key false = refl
 
-    go : (o : Comparison) → Stated r.key q.key o → line_in k (merge_at r rest qs) ≡ line_of k (record_with_key k (r ∷ rs)) (record_with_key k qs)
+    go : (o : Ordering) → Stated r.key q.key o → line_in k (merge_at r rest qs) ≡ line_of k (record_with_key k (r ∷ rs)) (record_with_key k qs)
         → line_in k (heads o r rest q qs) ≡ line_of k (record_with_key k (r ∷ rs)) (record_with_key k (q ∷ qs))
-    go Earlier p ih = low p (same k r.key) refl
+    go Less p ih = low p (same k r.key) refl
     go Equal p ih =
         both p (same k r.key) refl (fields_apart r q)
         ∙ (one_key (same k r.key) ∙ ap (λ (x : List ℕ). line_of k (record_with_key k (r ∷ rs)) (cond (same k x) (some q) (record_with_key k qs))) p)
-    go Later p ih = high p ih (same k q.key) refl
+    go Greater p ih = high p ih (same k q.key) refl
 
 merge-looks : (k : List ℕ) (rs : List Record) → Rising record_key rs → Looks k (merge rs) rs
 unfolding merge record_with_key line_in

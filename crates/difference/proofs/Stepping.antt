@@ -9,7 +9,7 @@ use lib.Seq.{drop-cons}
 use Rattle.model.specs.Table.{Record, form128}
 use Rattle.model.specs.Difference.{Line, removed, added, fields_apart, changed_line, add_line}
 use Rattle.table.specs.Slots.{record_in}
-use Rattle.order.specs.declared.Comparison.TheVariants.{Earlier, Equal, Later}
+use Rattle.std.proofs.Common.{Less, Equal, Greater}
 use Rattle.difference.specs.Lines.{change_lines}
 use Rattle.difference.specs.Walk.{merge, next_of, records_from, number_at}
 
@@ -33,20 +33,20 @@ module _ (t l : List ℕ) (i : ℕ) where
 -- ---- one list is at its end
 
 module _ (a l b m : List ℕ) (i j : ℕ) where
-  pub first_ended : length l ≤ i → next_of (records_from a l i) (records_from b m j) ≡ Later
+  pub first_ended : length l ≤ i → next_of (records_from a l i) (records_from b m j) ≡ Greater
   first_ended h = ap (λ (rs : List Record). next_of rs (records_from b m j)) (records-end a l i h)
 
-  pub second_ended : i < length l → length m ≤ j → next_of (records_from a l i) (records_from b m j) ≡ Earlier
+  pub second_ended : i < length l → length m ≤ j → next_of (records_from a l i) (records_from b m j) ≡ Less
   second_ended h k = λ x. next_of (records-next a l i h x) (records-end b m j k x)
 
 -- ---- the line of the next key, by which list has it
 
-pub merge-earlier : (r : Record) (rs qs : List Record) → next_of (r ∷ rs) qs ≡ Earlier → merge (r ∷ rs) qs ≡ removed r.key ∷ merge rs qs
+pub merge-earlier : (r : Record) (rs qs : List Record) → next_of (r ∷ rs) qs ≡ Less → merge (r ∷ rs) qs ≡ removed r.key ∷ merge rs qs
 unfolding merge
 merge-earlier r rs [] e = refl
 merge-earlier r rs (q ∷ qs) e = rw e
 
-pub merge-later : (rs : List Record) (q : Record) (qs : List Record) → next_of rs (q ∷ qs) ≡ Later → merge rs (q ∷ qs) ≡ added q.key ∷ merge rs qs
+pub merge-later : (rs : List Record) (q : Record) (qs : List Record) → next_of rs (q ∷ qs) ≡ Greater → merge rs (q ∷ qs) ≡ added q.key ∷ merge rs qs
 unfolding merge
 merge-later [] q qs e = refl
 merge-later (r ∷ rs) q qs e = rw e

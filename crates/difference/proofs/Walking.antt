@@ -19,8 +19,8 @@ use Rattle.slice.proofs.Writing.{same_size, wrote_then}
 use Rattle.table.specs.Slots.{Good, slots_of, InUseAt}
 use Rattle.table.proofs.Records.{slots-limit}
 use Rattle.table.proofs.Parts.{in-range}
-use Rattle.order.specs.declared.Comparison.{Comparison}
-use Rattle.order.specs.declared.Comparison.TheVariants.{Earlier, Equal, Later}
+use Rattle.std.proofs.Common.{Ordering}
+use Rattle.std.proofs.Common.{Less, Equal, Greater}
 use Rattle.order.specs.Places.{Lists}
 use Rattle.order.proofs.Building.{at_in}
 use Rattle.difference.specs.declared.walk.Walk.{Walk}
@@ -54,16 +54,16 @@ module _ {t l : List ℕ} (p : Along t l) where
 -- ---- a step
 
 -- what the step from places i and j passes, by which table has the next key
-abbrev pub Next : (a l b m : List ℕ) (i j : ℕ) → Comparison → Type 0
-Next a l b m i j Earlier = Passes a l b m i j (i + 1) j (removed (record_along a l i).key ∷ [])
+abbrev pub Next : (a l b m : List ℕ) (i j : ℕ) → Ordering → Type 0
+Next a l b m i j Less = Passes a l b m i j (i + 1) j (removed (record_along a l i).key ∷ [])
 Next a l b m i j Equal = Passes a l b m i j (i + 1) (j + 1) (change_lines (record_along a l i) (record_along b m j))
-Next a l b m i j Later = Passes a l b m i j i (j + 1) (added (record_along b m j).key ∷ [])
+Next a l b m i j Greater = Passes a l b m i j i (j + 1) (added (record_along b m j).key ∷ [])
 
 module _ {a l b m : List ℕ} (p : Along a l) (q : Along b m) (i j : ℕ) (first : i ≤ length l) (second : j ≤ length m) where
-  abbrev next : Comparison
+  abbrev next : Ordering
   next = next_of (records_from a l i) (records_from b m j)
 
-  earlier : i < length l → next ≡ Earlier → Next a l b m i j Earlier
+  earlier : i < length l → next ≡ Less → Next a l b m i j Less
   earlier h e =
       let r = record_along a l i in
       let n = records-next a l i h in
@@ -76,7 +76,7 @@ module _ {a l b m : List ℕ} (p : Along a l) (q : Along b m) (i j : ℕ) (first
             ∙ merge-earlier r _ _ (ap (λ (rs : List Record). next_of rs (records_from b m j)) (sym n) ∙ e);
       }
 
-  later : j < length m → next ≡ Later → Next a l b m i j Later
+  later : j < length m → next ≡ Greater → Next a l b m i j Greater
   later k e =
       let r = record_along b m j in
       let n = records-next b m j k in
@@ -103,10 +103,10 @@ module _ {a l b m : List ℕ} (p : Along a l) (q : Along b m) (i j : ℕ) (first
   pub next-passes : i + j < length l + length m → Next a l b m i j next
   next-passes more = go (ltb i (length l)) refl (ltb j (length m)) refl
     where
-      both : i < length l → j < length m → (o : Comparison) → next ≡ o → Next a l b m i j o
-      both h k Earlier e = earlier h e
+      both : i < length l → j < length m → (o : Ordering) → next ≡ o → Next a l b m i j o
+      both h k Less e = earlier h e
       both h k Equal e = equal h k e
-      both h k Later e = later k e
+      both h k Greater e = later k e
 
       go : (c : Bool) → ltb i (length l) ≡ c → (d : Bool) → ltb j (length m) ≡ d → Next a l b m i j next
       go true u true v = both (ltb-true i (length l) u) (ltb-true j (length m) v) next refl

@@ -5,18 +5,18 @@ use Rattle.model.specs.Order.{index_of}
 use Rattle.model.specs.Difference.{Line, removed, added, fields_apart, changed_line, add_line, lines_bytes}
 use Rattle.slice.specs.Wrote.{Wrote}
 use Rattle.table.specs.Slots.{Good, slots_of, record_in}
-use Rattle.order.specs.declared.Comparison.{Comparison}
-use Rattle.order.specs.declared.Comparison.TheVariants.{Earlier, Equal, Later}
+use Rattle.std.specs.declared.cmp.Ordering.{Ordering}
+use Rattle.std.specs.declared.cmp.Ordering.TheVariants.{Less, Equal, Greater}
 use Rattle.order.specs.Compared.{compared}
 use Rattle.difference.specs.declared.walk.Walk.{Walk}
 
 -- ---- lists of records whose keys rise, walked together
 
 module _ {A : Type 0} where
-  abbrev pub pick : Comparison → (low here high : A) → A
-  pick Earlier a b c = a
+  abbrev pub pick : Ordering → (low here high : A) → A
+  pick Less a b c = a
   pick Equal a b c = b
-  pick Later a b c = c
+  pick Greater a b c = c
 
 -- r and what comes after it, against records
 abbrev pub merge_at : (r : Record) (rest : List Record → List Line) → List Record → List Line
@@ -33,9 +33,9 @@ merge [] qs = map (λ (q : Record). added q.key) qs
 merge (r ∷ rs) qs = merge_at r (λ qs. merge rs qs) qs
 
 -- which list has the next key
-abbrev pub next_of : (before after : List Record) → Comparison
-next_of [] qs = Later
-next_of (r ∷ rs) [] = Earlier
+abbrev pub next_of : (before after : List Record) → Ordering
+next_of [] qs = Greater
+next_of (r ∷ rs) [] = Less
 next_of (r ∷ rs) (q ∷ qs) = compared r.key q.key
 
 -- ---- tables and their indexes
@@ -57,7 +57,7 @@ abbrev pub lines_left : (a l b m : List ℕ) (i j : ℕ) → List Line
 lines_left a l b m i j = merge (records_from a l i) (records_from b m j)
 
 -- the answer of which table has the next key
-abbrev pub Heads : (a l b m : List ℕ) → Walk → Comparison → Type 0
+abbrev pub Heads : (a l b m : List ℕ) → Walk → Ordering → Type 0
 Heads a l b m w r = r ≡ next_of (records_from a l w.first) (records_from b m w.second)
 
 -- how many records are left

@@ -9,6 +9,7 @@ ghost use Rattle.difference.specs.Lines.{fields_of, line_bytes, change_lines};
 use crate::fields::{Fields, fields_apart, is_none};
 
 // The digit of a number below 16.
+// Kept: std's `char::from_digit` gives a char in an Option, of which the byte would have to be taken.
 fn hex_digit(d: u8) -> u8
     requires { d < 16 }
     ensures { result ≡ hex_digit d }
@@ -25,12 +26,10 @@ fn put_hex(out: &mut [u8], at: usize, s: &[u8]) -> usize
     ensures { Wrote at (hex s.now) out.old out.new result }
 {
     let mut place = at;
-    let mut i = 0;
-    while i < s.len() {
-        out[place] = hex_digit(s[i] / 16);
-        out[place + 1] = hex_digit(s[i] % 16);
+    for byte in s {
+        out[place] = hex_digit(byte / 16);
+        out[place + 1] = hex_digit(byte % 16);
         place += 2;
-        i += 1;
     }
     place
 }

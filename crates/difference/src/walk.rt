@@ -8,8 +8,9 @@ ghost use Rattle.difference.specs.Walk.{Along, number_at, Heads, Ready, Steps};
 
 use crate::fields::no_field;
 use crate::line::{put_change, put_line};
-use order::{Comparison, compare, make_index};
+use order::{compare, make_index};
 use record::Form;
+use std::cmp::Ordering;
 
 // How far the walk is: the places in the two indexes, and the place in the buffer.
 #[derive(Clone, Copy)]
@@ -29,15 +30,15 @@ fn record_at<'a>(table: &'a [u8], index: &[u8], i: usize) -> &'a [u8]
 }
 
 // Which table has the next key: the first one, the second one, or both.
-fn next_key(before: &[u8], first: &[u8], after: &[u8], second: &[u8], walk: Walk) -> Comparison
+fn next_key(before: &[u8], first: &[u8], after: &[u8], second: &[u8], walk: Walk) -> Ordering
     requires { Along before.now first.now × Along after.now second.now }
     ensures { Heads before.now first.now after.now second.now walk result }
 {
     if first.len() <= walk.first {
-        return Comparison::Later;
+        return Ordering::Greater;
     }
     if second.len() <= walk.second {
-        return Comparison::Earlier;
+        return Ordering::Less;
     }
     compare(
         record::key(record_at(before, first, walk.first)),
@@ -55,41 +56,40 @@ fn step(
     out: &mut [u8],
 ) -> Walk
     requires along { Along before.now first.now × Along after.now second.now }
-    requires ready { Ready first.now second.now walk out.old }
-    requires second_in_bounds { walk.first + walk.second < length first.now + length second.now }
+    requires ready { Ready first.now second.now walk out.old × (walk.first + walk.second < length first.now + length second.now) }
     ensures { Steps before.now first.now after.now second.now walk result out.old out.new }
 {
-    let at = walk.at;
     match next_key(before, first, after, second, walk) {
-        Comparison::Earlier => {
+        Ordering::Less => {
             let key = record::key(record_at(before, first, walk.first));
             Walk {
                 first: walk.first + 1,
-                second: walk.second,
-                at: put_line(out, at, b'-', key, no_field()),
+                at: put_line(out, walk.at, b'-', key, no_field()),
+                ..walk
             }
         }
-        Comparison::Later => {
+        Ordering::Greater => {
             let key = record::key(record_at(after, second, walk.second));
             Walk {
-                first: walk.first,
                 second: walk.second + 1,
-                at: put_line(out, at, b'+', key, no_field()),
+                at: put_line(out, walk.at, b'+', key, no_field()),
+                ..walk
             }
         }
-        Comparison::Equal => {
+        Ordering::Equal => {
             let r = record_at(before, first, walk.first);
             let q = record_at(after, second, walk.second);
             Walk {
                 first: walk.first + 1,
                 second: walk.second + 1,
-                at: put_change(out, at, r, q),
+                at: put_change(out, walk.at, r, q),
             }
         }
     }
 }
 
 // Writes the lines of two tables by their indexes.
+// Kept: a step goes on in one index or in both, so that the loop has no range to go over.
 fn write_lines(before: &[u8], first: &[u8], after: &[u8], second: &[u8], out: &mut [u8]) -> usize
     requires { Along before.now first.now × Along after.now second.now × (26112 ≤ length out.old) }
     ensures { Wrote 0 (lines_bytes (difference (slots_of form128 before.now) (slots_of form128 after.now))) out.old out.new result }

@@ -2,7 +2,10 @@
 use Rattle.std.proofs.Common.{◌≡◌, ℕ, zero, suc, ◌+◌, ◌-◌, ◌<◌, ◌≤◌, Bool, true, false, cond, ◌&&◌, ltb, sym, refl, ap, ◌∙◌, subst, add-one, arith, ltb-true, ne_eqb}
 use mathlib.Core.Bool.{not-eq-not}
 use Rattle.slice.proofs.Equal.{never, and_left, and_right}
-use Rattle.index.specs.Index.{entry_of, entry_from, named_by}
+use Rattle.std.proofs.Math.Option as model
+use Rattle.std.proofs.Common.{Some, None}
+use Rattle.outcome.specs.Outcome.{to_model}
+use Rattle.index.specs.Index.{entry_of, entry_from, named_by, entry_slot}
 
 -- what holds past the last of n slots, and of a slot where it holds of the next one, holds of every slot
 pub downward : (P : ℕ → Type 0) (n : ℕ) → ((i : ℕ) → n ≤ i → P i) → ((i : ℕ) → i < n → P (i + 1) → P i) → (i : ℕ) → P i
@@ -74,3 +77,17 @@ entry-through p q n = downward Through n (λ i h implies. end i h) (λ i h more 
       where
         both : passes q i ≡ true → passes p i ≡ true
         both u = rw (and_left (ltb 0 i) (q i) u, implies i (omega arith) h (and_right (ltb 0 i) (q i) u))
+
+-- ---- the slot of an entry
+
+pub some-entry : (e i : ℕ) → e ≡ i → 0 < i → Some i ≡ entry_slot e
+some-entry e zero q h = absurd (omega arith)
+some-entry e (suc i) q h = rw q
+
+pub no-entry : (e : ℕ) → e ≡ 0 → None ≡ entry_slot e
+no-entry e q = rw q
+
+-- as the model has it
+pub to-slot : (e : ℕ) (o : model.Option ℕ) → (e ≡ 0 → model.none ≡ o) → (0 < e → model.some e ≡ o) → to_model (entry_slot e) ≡ o
+to-slot zero o a b = a refl
+to-slot (suc e) o a b = b (omega arith)

@@ -1,7 +1,7 @@
 -- The index of the keys of a table: two arrays of entries, each the number of a slot, or 0 for none. `heads` has for each bucket the lowest
 -- slot whose key falls into it, and `next` for each slot in use the lowest slot after it of the same bucket. Slot 0 has the number that is for
 -- none, so that no entry names it.
-use Rattle.std.specs.Prelude.{◌≡◌, ℕ, zero, suc, ◌+◌, ◌-◌, ◌/◌, ◌<◌, ◌≤◌, Bool, true, cond, ◌&&◌, List, length, ◌==◌, bit_and, nat_lt, slice_index, slice_set}
+use Rattle.std.specs.Prelude.{◌≡◌, ℕ, zero, suc, ◌+◌, ◌-◌, ◌/◌, ◌<◌, ◌≤◌, Bool, true, cond, ◌&&◌, List, length, ◌==◌, bit_and, nat_lt, slice_index, slice_set, Option, Some, None}
 use Rattle.model.specs.Bytes.{part, padded}
 use Rattle.model.specs.Table.{Form, record_size, record_at, key_at, key_limit}
 use Rattle.record.specs.Record.{IsSlot, is_used, has_key}
@@ -21,6 +21,15 @@ entry_from p n i = entry_of p (n - i) i
 -- the slot that an entry names, of n slots; n where it names none
 abbrev pub named_by : (n entry : ℕ) → ℕ
 named_by n e = cond (e == 0) n e
+
+-- the slot of an entry, and the entry of a slot
+abbrev pub entry_slot : ℕ → Option ℕ
+entry_slot zero = None
+entry_slot (suc i) = Some (suc i)
+
+abbrev pub slot_entry : Option ℕ → ℕ
+slot_entry None = 0
+slot_entry (Some i) = i
 
 -- ---- buckets
 

@@ -41,9 +41,7 @@ fn word(key: &[u8], at: usize) -> u64
         return slice::get8(key, n - 8) >> (8 * (at + 8 - n));
     }
     let mut w = 0;
-    let mut i = n;
-    while 0 < i {
-        i -= 1;
+    for i in (0..n).rev() {
         w = w * 256 + key[i] as u64;
     }
     w
@@ -62,6 +60,5 @@ fn with_word(x: u64, word: u64) -> u64
     ensures { result ≡ with_word x word }
 {
     let eight = x % 2305843009213693952 * 8;
-    let nine = std::num::wrapping_add_u64(x, eight);
-    std::num::wrapping_add_u64(nine, word)
+    x.wrapping_add(eight).wrapping_add(word)
 }

@@ -4,13 +4,14 @@
 mod hash;
 
 ghost use Rattle.std.specs.Prelude.{◌≡◌, ◌-◌, ◌<◌, ◌≤◌, length, bit_and, slice_index};
+ghost use Rattle.std.specs.Option.{IfSome};
 ghost use Rattle.model.specs.Table.{key_limit};
+ghost use Rattle.outcome.specs.Outcome.{to_model};
 ghost use Rattle.record.specs.Forms.{form_of};
-ghost use Rattle.table.specs.Slots.{Reads, slots_of, slot_of, key_slot};
-ghost use Rattle.index.specs.Index.{key_entry, Indexed, Enters, Chain};
+ghost use Rattle.table.specs.Slots.{Reads, slots_of, key_slot};
+ghost use Rattle.index.specs.Index.{key_entry, Indexed, Enters, Chain, entry_slot, slot_entry};
 
 use record::{Form, KEY_LIMIT};
-use table::Found;
 
 // The bucket of a hash, of `n` buckets. Where n is a power of two, a mask spares a division.
 fn bucket(hash: u64, n: usize) -> usize
@@ -20,11 +21,13 @@ fn bucket(hash: u64, n: usize) -> usize
     hash as usize & (n - 1)
 }
 
-// Enters a slot by the 24 bytes of its key, and gives back the entry that was at the head of its bucket. Slots are entered from the last one
+// Enters a slot by the 24 bytes of its key, and gives back the slot that was at the head of its bucket. Slots are entered from the last one
 // down. No entry can name slot 0, which comes last. The slot's own entry is 0 before, so that only another one is written.
-pub fn enter(heads: &mut [u8], next: &mut [u8], slot: usize, key: &[u8]) -> usize
+// Kept: an entry of the arrays is a byte, 0 for none, since the caller lends them and the library has no heap for options.
+pub fn enter(heads: &mut [u8], next: &mut [u8], slot: usize, key: &[u8]) -> Option<usize>
     requires { (1 ≤ length heads.old) × (slot < length next.old) × (slot < 256) × (length key.now ≡ key_limit) × (slice_index next.old slot ≡ 0) }
-    ensures { Enters slot key.now heads.old next.old result heads.new next.new }
+    ensures entered { Enters slot key.now heads.old next.old (slot_entry result) heads.new next.new }
+    ensures some { IfSome result (λ i. 0 < i) }
 {
     let at = bucket(hash::of_padded(key), heads.len());
     let first = heads[at];
@@ -32,46 +35,49 @@ pub fn enter(heads: &mut [u8], next: &mut [u8], slot: usize, key: &[u8]) -> usiz
         heads[at] = slot as u8;
     }
     if first == 0 {
-        return 0;
+        return None;
     }
     next[slot] = first;
-    first as usize
+    Some(first as usize)
 }
 
-// The entry of the lowest slot on a chain that has the key.
-pub fn search_chain(table: &[u8], form: Form, next: &[u8], first: usize, key: &[u8]) -> usize
+// The lowest slot on a chain, from an entry on, that has the key.
+// Kept: a chain is followed from entry to entry, so that the loop has no range to go over.
+pub fn search_chain(
+    table: &[u8],
+    form: Form,
+    next: &[u8],
+    first: usize,
+    key: &[u8],
+) -> Option<usize>
     requires { Chain (form_of form) table.now next.now first key.now }
-    ensures { result ≡ key_entry (form_of form) table.now key.now first }
+    ensures { result ≡ entry_slot (key_entry (form_of form) table.now key.now first) }
 {
     let mut at = first;
     while 0 < at {
         if record::has_key(table::slot(table, form, at), key) {
-            return at;
+            return Some(at);
         }
         at = next[at] as usize;
     }
-    0
+    None
 }
 
 // The slot of the record in use with the key, live or not. No record has a key longer than 24 bytes. Slot 0 is looked at by itself.
-pub fn find(table: &[u8], form: Form, key: &[u8], heads: &[u8], next: &[u8]) -> Found
+pub fn find(table: &[u8], form: Form, key: &[u8], heads: &[u8], next: &[u8]) -> Option<usize>
     requires reads { Reads (form_of form) table.now }
     requires indexed { Indexed (form_of form) table.now 0 heads.now next.now }
-    ensures { slot_of result ≡ key_slot key.now (slots_of (form_of form) table.now) }
+    ensures { to_model result ≡ key_slot key.now (slots_of (form_of form) table.now) }
 {
     if KEY_LIMIT < key.len() {
-        return Found::Nothing;
+        return None;
     }
     if record::has_key(table::slot(table, form, 0), key) {
-        return Found::At(0);
+        return Some(0);
     }
     if table::count(table, form) == 1 {
-        return Found::Nothing;
+        return None;
     }
     let first = heads[bucket(hash::of_key(key), heads.len())] as usize;
-    let at = search_chain(table, form, next, first, key);
-    if at == 0 {
-        return Found::Nothing;
-    }
-    Found::At(at)
+    search_chain(table, form, next, first, key)
 }

@@ -1,13 +1,12 @@
 -- What the check of a table asks of the arrays of the index, and what it says of the table.
-use Rattle.std.specs.Prelude.{ℕ, ◌≤◌, ◌≡◌, Bool, true, false, ◌&&◌, List, length, get_or}
+use Rattle.std.specs.Prelude.{ℕ, ◌≤◌, ◌≡◌, Bool, true, false, ◌&&◌, List, length, get_or, Option, Some, None, Result, Ok, Err}
+use Rattle.outcome.specs.declared.Refusal.{Refusal}
 use Rattle.model.specs.Bytes.{part}
 use Rattle.model.specs.Optional.{is_some}
 use Rattle.model.specs.Table.{Form, table_limit, key_at, key_limit, read_slot, read_table, distinct}
 use Rattle.record.specs.Record.{is_used}
 use Rattle.table.specs.Slots.{slots_of}
-use Rattle.index.specs.Index.{count_of, Indexed, Enters}
-use Rattle.integrity.specs.declared.Entered.{Entered}
-use Rattle.integrity.specs.declared.Entered.TheVariants.{Alone, After, Damaged}
+use Rattle.index.specs.Index.{count_of, Indexed, Enters, slot_entry}
 
 -- whether a table keeps all rules: its length, each record, and that no two keys are equal
 abbrev pub faultless : Form → (t : List ℕ) → Bool
@@ -30,8 +29,12 @@ pub record EntersUsed (i : ℕ) (r heads next : List ℕ) (first : ℕ) (heads' 
   pub used : is_used r ≡ true → Enters i (part key_at key_limit r) heads next first heads' next'
   pub unused : is_used r ≡ false → (heads' ≡ heads) × (next' ≡ next)
 
+-- where a slot comes after another one, it is in use
+abbrev pub UsedAfter : (r : List ℕ) → Option ℕ → Type 0
+UsedAfter r None = Unit {0}
+UsedAfter r (Some first) = is_used r ≡ true
+
 -- what the test of the bytes r of slot i says, and what it leaves in the index
-abbrev pub Tests : Form → (i : ℕ) (r heads next heads' next' : List ℕ) → Entered → Type 0
-Tests f i r h n h' n' Alone = (is_some (read_slot f r) ≡ true) × EntersUsed i r h n 0 h' n'
-Tests f i r h n h' n' (After first) = (is_some (read_slot f r) ≡ true) × (is_used r ≡ true) × EntersUsed i r h n first h' n'
-Tests f i r h n h' n' Damaged = is_some (read_slot f r) ≡ false
+abbrev pub Tests : Form → (i : ℕ) (r heads next heads' next' : List ℕ) → Result (Option ℕ) Refusal → Type 0
+Tests f i r h n h' n' (Ok o) = (is_some (read_slot f r) ≡ true) × UsedAfter r o × EntersUsed i r h n (slot_entry o) h' n'
+Tests f i r h n h' n' (Err e) = is_some (read_slot f r) ≡ false

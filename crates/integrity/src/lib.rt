@@ -8,19 +8,12 @@ ghost use Rattle.model.specs.Table.{record_size};
 ghost use Rattle.record.specs.Forms.{form_of};
 ghost use Rattle.integrity.specs.Check.{faultless, Fresh, Checks, Tests};
 
+use outcome::Refusal;
 use record::{Form, KEY_AT, VALUE_AT};
 pub use size::has_size;
 
 // The most records of a table.
 const TABLE_LIMIT: usize = 256;
-
-// What the test of a record comes to: no slot entered before it shares its bucket, the chain of its bucket began with a slot, or it is no record.
-#[derive(Clone, Copy)]
-pub enum Entered {
-    Alone,
-    After(usize),
-    Damaged,
-}
 
 // Whether the table keeps all rules. Slots are passed from the last one down; each is tested, entered, and its key compared with those of its
 // bucket that were passed.
@@ -38,22 +31,19 @@ pub fn check(table: &[u8], form: Form, heads: &mut [u8], next: &mut [u8]) -> boo
     if TABLE_LIMIT < n {
         return false;
     }
-    let mut above = n;
-    while 0 < above {
-        let i = above - 1;
+    for i in (0..n).rev() {
         let r = table::slot(table, form, i);
         match enter(r, form, i, heads, next) {
-            Entered::Alone => {}
-            Entered::After(first) => {
-                if index::search_chain(table, form, next, first, record::key(r)) != 0 {
+            Ok(None) => {}
+            Ok(Some(first)) => {
+                if index::search_chain(table, form, next, first, record::key(r)).is_some() {
                     return false;
                 }
             }
-            Entered::Damaged => {
+            Err(_) => {
                 return false;
             }
         }
-        above = i;
     }
     true
 }
@@ -67,23 +57,26 @@ pub fn is_good(table: &[u8], form: Form) -> bool
     check(table, form, &mut heads, &mut next)
 }
 
-// Tests the bytes of a slot, and enters it if they are a record in use.
-fn enter(r: &[u8], form: Form, slot: usize, heads: &mut [u8], next: &mut [u8]) -> Entered
+// Tests the bytes of a slot, and enters it if they are a record in use. It gives back the slot with which the chain of its bucket began, if one
+// entered before shares its bucket.
+fn enter(
+    r: &[u8],
+    form: Form,
+    slot: usize,
+    heads: &mut [u8],
+    next: &mut [u8],
+) -> Result<Option<usize>, Refusal>
     requires { (length r.now ≡ record_size (form_of form)) × (slot < 256) × (1 ≤ length heads.old) × (slot < length next.old) × (get_or next.old slot 0 ≡ 0) }
     ensures { Tests (form_of form) slot r.now heads.old next.old heads.new next.new result }
 {
     if !record::in_use(r) {
         if slice::is_zero(r) {
-            return Entered::Alone;
+            return Ok(None);
         }
-        return Entered::Damaged;
+        return Err(Refusal::Damaged);
     }
     if !record::is_record(r, form) {
-        return Entered::Damaged;
+        return Err(Refusal::Damaged);
     }
-    let first = index::enter(heads, next, slot, &r[KEY_AT..VALUE_AT]);
-    if first == 0 {
-        return Entered::Alone;
-    }
-    Entered::After(first)
+    Ok(index::enter(heads, next, slot, &r[KEY_AT..VALUE_AT]))
 }

@@ -7,8 +7,8 @@ ghost use Rattle.record.specs.Forms.{form_of};
 use crate::TABLE_LIMIT;
 use record::Form;
 
-// Whether a table has whole records, 1 to 256 of them. `check` makes these tests itself: calling this function would cost each call of
-// the store three instructions.
+// Whether a table has whole records, 1 to 256 of them.
+// Kept: `check` makes these tests itself, since calling this function would cost each call of the store three instructions.
 pub fn has_size(table: &[u8], form: Form) -> bool
     ensures { result ≡ all (size_rules (form_of form) table.now) }
 {

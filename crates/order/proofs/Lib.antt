@@ -1,5 +1,4 @@
 pub mod Compared
-pub mod Passing
 pub mod Moving
 pub mod Halving
 pub mod Building

@@ -1,9 +1,9 @@
 -- Byte order of two keys, told three ways.
 use Rattle.std.specs.Prelude.{ℕ, cond, List}
 use Rattle.model.specs.Order.{before}
-use Rattle.order.specs.declared.Comparison.{Comparison}
-use Rattle.order.specs.declared.Comparison.TheVariants.{Earlier, Equal, Later}
+use Rattle.std.specs.declared.cmp.Ordering.{Ordering}
+use Rattle.std.specs.declared.cmp.Ordering.TheVariants.{Less, Equal, Greater}
 
 -- how s stands to t
-unfoldable pub compared : (s t : List ℕ) → Comparison
-compared s t = cond (before s t) Earlier (cond (before t s) Later Equal)
+unfoldable pub compared : (s t : List ℕ) → Ordering
+compared s t = cond (before s t) Less (cond (before t s) Greater Equal)

@@ -1,10 +1,8 @@
 -- Lists of slot numbers: along which keys rise, the place of a key in one, and the list that holds an index.
-use Rattle.std.specs.Prelude.{ℕ, ◌≤◌, ◌<◌, ◌≡◌, true, List, length, get_or, drop}
+use Rattle.std.specs.Prelude.{ℕ, ◌≤◌, ◌<◌, ◌≡◌, true, List, length, get_or, drop, Result, Ok, Err}
 use Rattle.model.specs.Table.{Form}
 use Rattle.model.specs.Order.{before, index_from, list_from}
 use Rattle.table.specs.Slots.{slots_of, record_in, InUseAt}
-use Rattle.order.specs.declared.Place.{Place}
-use Rattle.order.specs.declared.Place.TheVariants.{At, Gap}
 
 -- the key of the record whose number stands at place i of the list l
 abbrev pub key_at_place : Form → (t l : List ℕ) (i : ℕ) → List ℕ
@@ -23,9 +21,9 @@ pub record Between (f : Form) (t l : List ℕ) (n : ℕ) (k : List ℕ) (p : ℕ
   pub high : (i : ℕ) → p ≤ i → i < n → before k (key_at_place f t l i) ≡ true
 
 -- the key k stands at a place of the first n, or is in none of them, and its place
-abbrev pub Stands : Form → (t l : List ℕ) (n : ℕ) (k : List ℕ) → Place → Type 0
-Stands f t l n k (At p) = (p < n) × (key_at_place f t l p ≡ k)
-Stands f t l n k (Gap p) = Between f t l n k p
+abbrev pub Stands : Form → (t l : List ℕ) (n : ℕ) (k : List ℕ) → Result ℕ ℕ → Type 0
+Stands f t l n k (Ok p) = (p < n) × (key_at_place f t l p ≡ k)
+Stands f t l n k (Err p) = Between f t l n k p
 
 -- the list, of `room` places, holds the index of the slots from slot i on, which has n numbers
 pub record Lists (f : Form) (t : List ℕ) (i room : ℕ) (list : List ℕ) (n : ℕ) : Type 0 where

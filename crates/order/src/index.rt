@@ -4,7 +4,6 @@ ghost use Rattle.record.specs.Forms.{form_of};
 ghost use Rattle.table.specs.Slots.{Good, slots_of};
 ghost use Rattle.order.specs.Places.{Lists};
 
-use crate::Place;
 use crate::search::{find_place, put_in};
 use record::Form;
 
@@ -21,8 +20,8 @@ fn enter(table: &[u8], form: Form, slot: usize, list: &mut [u8], n: usize) -> us
     }
     match find_place(table, form, list, n, record::key(r)) {
         // keys are distinct, so that none of those after it has this one
-        Place::At(_) => n,
-        Place::Gap(place) => {
+        Ok(_) => n,
+        Err(place) => {
             put_in(list, n, place, slot as u8);
             n + 1
         }
@@ -38,10 +37,8 @@ pub fn make_index(table: &[u8], form: Form, list: &mut [u8]) -> usize
 {
     slice::clear(list);
     let mut n = 0;
-    let mut above = table::count(table, form);
-    while 0 < above {
-        above -= 1;
-        n = enter(table, form, above, list, n);
+    for slot in (0..table::count(table, form)).rev() {
+        n = enter(table, form, slot, list, n);
     }
     n
 }

@@ -6,11 +6,18 @@ ghost use Rattle.table.specs.Slots.{Reads};
 ghost use Rattle.order.specs.Places.{Ascends, Stands};
 
 use crate::keys::compare;
-use crate::{Comparison, Place};
 use record::Form;
+use std::cmp::Ordering;
 
-// The place of a key among the first `n` numbers of a list, by halves: of 256 keys at most nine are compared.
-pub fn find_place(table: &[u8], form: Form, list: &[u8], n: usize, key: &[u8]) -> Place
+// The place of a key among the first `n` numbers of a list, or the one at which it would be put in, by halves: of 256 keys at most nine are compared.
+// Kept: `binary_search_by` asks that its closure can be called on any number, and only one of the list names a record in use.
+pub fn find_place(
+    table: &[u8],
+    form: Form,
+    list: &[u8],
+    n: usize,
+    key: &[u8],
+) -> Result<usize, usize>
     requires reads { Reads (form_of form) table.now }
     requires ascends { Ascends (form_of form) table.now list.now n }
     ensures { Stands (form_of form) table.now list.now n key.now result }
@@ -21,18 +28,18 @@ pub fn find_place(table: &[u8], form: Form, list: &[u8], n: usize, key: &[u8]) -
         let middle = low + (high - low) / 2;
         let r = table::record_at(table, form, list[middle] as usize);
         match compare(key, record::key(r)) {
-            Comparison::Earlier => {
+            Ordering::Less => {
                 high = middle;
             }
-            Comparison::Equal => {
-                return Place::At(middle);
+            Ordering::Equal => {
+                return Ok(middle);
             }
-            Comparison::Later => {
+            Ordering::Greater => {
                 low = middle + 1;
             }
         }
     }
-    Place::Gap(low)
+    Err(low)
 }
 
 // Puts a number in at a place of the first `n`: those from there on move up by one.

@@ -28,6 +28,7 @@ pub fn key(r: &[u8]) -> &[u8]
 }
 
 // The value of a record in use.
+// Kept: beside `key`, since one function of both would take the two places of each and say less.
 pub fn value(r: &[u8]) -> &[u8]
     requires { InUse r.now }
     ensures { result.now ≡ (fields r.now).value }

@@ -46,10 +46,11 @@ fn bits_after_key(key: &[u8], n: usize) -> u64
     if 16 < n {
         return last >> (8 * (n - 17)) >> 8;
     }
-    slice::get8(key, n) | slice::get8(key, slice::max(n, 8)) | last
+    slice::get8(key, n) | slice::get8(key, n.max(8)) | last
 }
 
-// The bits of the bytes after a value of `n` bytes: 0 where they are zeros. Each form has a call of its own, in which the loop's length is known.
+// The bits of the bytes after a value of `n` bytes: 0 where they are zeros.
+// Kept: each form has a call of its own, in which the loop's length is known; where it varies, there are no wide loads.
 fn bits_after_value(r: &[u8], form: Form, n: usize) -> u64
     requires { (n ≤ (form_of form).value_limit) × (length r.now ≡ record_size (form_of form)) }
     ensures { eqb result 0 ≡ zeros_from n (part value_at (length r.now - value_at) r.now) }

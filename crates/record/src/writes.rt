@@ -27,7 +27,8 @@ pub fn write(r: &mut [u8], form: Form, key: &[u8], value: &[u8], attributes: Att
     write_value(r, form, value);
 }
 
-// Writes a value and zeros over the rest of a record. Each form has a call of its own, in which the length is known.
+// Writes a value and zeros over the rest of a record.
+// Kept: each form has a call of its own, in which the length is known, so that clearing takes no loop.
 fn write_value(r: &mut [u8], form: Form, value: &[u8])
     requires { (length r.old ≡ record_size (form_of form)) × (length value.now ≤ (form_of form).value_limit) }
     ensures { r.new ≡ written value_at (padded (record_size (form_of form) - value_at) value.now) r.old }

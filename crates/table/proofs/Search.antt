@@ -116,14 +116,6 @@ key-lowest k ss = sym (lowest-holds k ss) ∙ lowest_start (holds k) ss
 
 -- an empty slot, else an expired one
 module _ (now : ℕ) (ss : List Slot) where
-  pub free-empty : (i : ℕ) → some i ≡ lowest is_empty ss → some i ≡ free_slot now ss
-  unfolding free_slot
-  free-empty i e = rw (sym e)
-
-  pub free-expired : none ≡ lowest is_empty ss → lowest (is_expired now) ss ≡ free_slot now ss
-  unfolding free_slot
-  free-expired e = rw (sym e)
-
   -- a free slot is one of the slots
   pub free-within : (i : ℕ) → some i ≡ free_slot now ss → i < length ss
   unfolding free_slot

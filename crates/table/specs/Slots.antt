@@ -7,8 +7,6 @@ use Rattle.model.specs.Table.{Form, Slot, Record, empty, used, fields, record_si
 use Rattle.model.specs.Search.{Placed, find_key, lowest}
 use Rattle.model.specs.Optional.{is_some}
 use Rattle.record.specs.Record.{InUse}
-use Rattle.table.specs.declared.Found.{Found}
-use Rattle.table.specs.declared.Found.TheVariants.{At, Nothing}
 
 -- the first half of a table's check passed
 abbrev pub Reads : Form → List ℕ → Type 0
@@ -26,11 +24,6 @@ pub record Good (f : Form) (t : List ℕ) : Type 0 where
 -- record i lies within the table
 abbrev pub Inside : Form → List ℕ → ℕ → Type 0
 Inside f t i = i * record_size f + record_size f ≤ length t
-
--- the slot that an answer gives
-abbrev pub slot_of : Found → Option ℕ
-slot_of Nothing = none
-slot_of (At i) = some i
 
 -- the slot of the record in use with the key k, live or not
 abbrev pub key_slot : List ℕ → List Slot → Option ℕ

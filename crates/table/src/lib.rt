@@ -13,13 +13,6 @@ pub use change::{clear, join, set_attributes, store};
 pub use lookup::free_slot;
 use record::Form;
 
-// The number of a slot, or that there is none.
-#[derive(Clone, Copy)]
-pub enum Found {
-    At(usize),
-    Nothing,
-}
-
 // How many whole slots a table has. The sizes stand here as constants, so that no division is compiled.
 pub fn count(table: &[u8], form: Form) -> usize
     ensures { result ≡ length table.now / record_size (form_of form) }

@@ -6,8 +6,8 @@ use lib.ListN.{length}
 use borrow.Author.Rules.{rules}
 use Rattle.model.specs.Table.{Record, fields}
 use Rattle.model.specs.Difference.{removed, added, lines_bytes}
-use Rattle.order.specs.declared.Comparison.{Comparison}
-use Rattle.order.specs.declared.Comparison.TheVariants.{Earlier, Equal, Later}
+use Rattle.std.proofs.Common.{Ordering}
+use Rattle.std.proofs.Common.{Less, Equal, Greater}
 use Rattle.difference.specs.Lines.{fields_of, line_bytes, change_lines}
 use Rattle.slice.proofs.Pieces.{wrote_as}
 use Rattle.difference.proofs.Texts.{removed-line, added-line}
@@ -17,7 +17,7 @@ use Rattle.difference.proofs.walk.step.Statement.{statement}
 use Rattle.difference.proofs.walk.step.Tie as tie
 
 -- what the step passes, by the answer of `next_key`
-abbrev Passed : tie.Start → Comparison → Type 0
+abbrev Passed : tie.Start → Ordering → Type 0
 Passed s = let a = s.args in Next a.before.now a.first.now a.after.now a.second.now a.walk.first a.walk.second
 
 -- the records at the two places
@@ -35,8 +35,8 @@ told c =
 
 -- ---- a key in the first table alone
 
-earlier : (c : tie.In-Earlier) → Passed c.before.before.before.before.before.before.before Earlier
-earlier c = let n = c.before in subst (Passed n.before.before.before.before.before.before) c.in-Earlier.is (told n)
+earlier : (c : tie.In-Less) → Passed c.before.before.before.before.before.before.before Less
+earlier c = let n = c.before in subst (Passed n.before.before.before.before.before.before) c.in-Less.is (told n)
 
 removes : (c : tie.After-no_field)
     → let s = c.before.before.before.before.before.before.before.before.before.before.before.before in
@@ -50,30 +50,30 @@ put-line-requires c κs =
     let t = c.before.before.before.before.before in
     omega (arith, ap length (removes c), step_room t.requires.1.0 (earlier t))
 
-returns : tie.Need-returns-in-Earlier
+returns : tie.Need-returns-in-Less
 returns c =
     record { lines = _; passes = earlier c.before.before.before.before.before.before.before.before; wrote = wrote_as (removes c.before.before.before) c.put_line.ensures }
 
 -- ---- a key in the second table alone
 
-later : (c : tie.In-Later) → Passed c.before.before.before.before.before.before.before Later
-later c = let n = c.before in subst (Passed n.before.before.before.before.before.before) c.in-Later.is (told n)
+later : (c : tie.In-Greater) → Passed c.before.before.before.before.before.before.before Greater
+later c = let n = c.before in subst (Passed n.before.before.before.before.before.before) c.in-Greater.is (told n)
 
-adds : (c : tie.After-no_field-in-Later)
+adds : (c : tie.After-no_field-in-Greater)
     → let s = c.before.before.before.before.before.before.before.before.before.before.before.before in
-    line_bytes 43 c.key-key-in-Later.result.now (fields_of c.no_field-in-Later.result) ≡ lines_bytes (added (second_record s).key ∷ [])
+    line_bytes 43 c.key-key-in-Greater.result.now (fields_of c.no_field-in-Greater.result) ≡ lines_bytes (added (second_record s).key ∷ [])
 adds c =
-    let key-is = c.key-key-in-Later.ensures ∙ ap (λ (r : Record). r.key) c.record_at-in-Later.ensures.is in
-    (λ x. line_bytes 43 (key-is x) (c.no_field-in-Later.ensures x)) ∙ sym (added-line _)
+    let key-is = c.key-key-in-Greater.ensures ∙ ap (λ (r : Record). r.key) c.record_at-in-Greater.ensures.is in
+    (λ x. line_bytes 43 (key-is x) (c.no_field-in-Greater.ensures x)) ∙ sym (added-line _)
 
-put-line-requires-2 : tie.Need-put_line-requires-in-Later
+put-line-requires-2 : tie.Need-put_line-requires-in-Greater
 put-line-requires-2 c κs =
     let t = c.before.before.before.before.before in
     omega (arith, ap length (adds c), step_room t.requires.1.0 (later t))
 
-returns-2 : tie.Need-returns-in-Later
+returns-2 : tie.Need-returns-in-Greater
 returns-2 c =
-    record { lines = _; passes = later c.before.before.before.before.before.before.before.before; wrote = wrote_as (adds c.before.before.before) c.put_line-in-Later.ensures }
+    record { lines = _; passes = later c.before.before.before.before.before.before.before.before; wrote = wrote_as (adds c.before.before.before) c.put_line-in-Greater.ensures }
 
 -- ---- a key in both tables
 
