@@ -1,9 +1,9 @@
 -- A value with zeros after it: a field is read from it as from the value, and written to it as to the value.
-use mathlib.Core.Path.{◌≡◌, refl, sym, ap, ◌∙◌, subst}
+use mathlib.Core.Path.{◌≡◌, refl, sym, ap, ◌∙◌}
 use mathlib.Core.Bool.{Bool, false, true}
-use mathlib.Core.List.{List, []}
+use mathlib.Core.List.{List}
 use Prim.Native.Nat.{ℕ, suc, ◌+◌, ◌-◌, ◌*◌, ◌/◌, ◌≤◌, ◌<◌, max}
-use native.Mathlib.Nat.{zero-add, sub-zero}
+use native.Mathlib.Nat.{zero-add}
 use native.Mathlib.Omega.{arith}
 use lib.ListN.{length, take, replicate}
 use lib.Seq.{ext_get_or, take_at}
@@ -12,12 +12,12 @@ use lib.IntN.{ℤ}
 use borrow.Author.Tests.{ltb-true, ltb-false, leb-true, leb-false}
 use Rattle.model.specs.Bytes.{padded, written}
 use Rattle.model.specs.Bits.{from_bits, to_bits, bits_of, bit_at}
-use Rattle.model.specs.Field.{modulus, modulo, Field, end_bit, last_byte, field_bits, grown, set_field_bits, set_field}
+use Rattle.model.specs.Field.{is_int_type, modulus, modulo, Field, end_bit, last_byte, field_bits, grown, set_field_bits, set_field}
 use Rattle.model.proofs.Bits.{length-to_bits, length-bits_of, bits_at-same, bits_of-eq, get_or-sets-in}
 use Rattle.model.proofs.Fields.{get_or-padded, bit_at-padded, length-padded-max, end-grown, bits_of-set_field_bits, length-set_field_bits, bytes-set_field_bits, bit-before, bit-behind, length-set_field}
 use Rattle.model.proofs.Ranges.{type-wide}
 use Rattle.slice.proofs.Written.{drop-replicate}
-use Rattle.bitfield.specs.Run.{Holds, Clean, FieldWithin}
+use Rattle.bitfield.specs.Run.{Holds, Clean}
 
 -- ---- the value in a buffer
 
@@ -35,13 +35,10 @@ module _ {v : List ℕ} {n : ℕ} {b : List ℕ} {len : ℕ} (h : Holds v n b le
   pub held-clean : n ≤ 128 → Clean b len
   held-clean s = record { holds = rw (front, length-held) h; small = omega (arith, length-held) }
 
--- a buffer of zeros holds no bytes, and what is written over its front
+-- a buffer of zeros holds what is written over its front
 pub holds-copy : {b after s : List ℕ} → b ≡ replicate (length b) 0 → length s ≤ length b → after ≡ written 0 s b → Holds s (length b) after (length s)
 holds-copy {b} {after} {s} z h e =
     record { bytes = e ∙ (ap (written 0 s) z ∙ rw (drop-replicate (0 + length s) (length b) 0, zero-add)); size = refl; within = h }
-
-pub holds-nothing : {b v : List ℕ} → b ≡ replicate (length b) 0 → [] ≡ v → Holds v (length b) b 0
-holds-nothing {b} z e = subst (λ (v : List ℕ). Holds v (length b) b 0) e (record { bytes = z ∙ ap (λ (n : ℕ). replicate n 0) (sym (sub-zero (length b))); size = refl; within = omega arith })
 
 -- ---- fields
 
@@ -91,16 +88,16 @@ module _ (f : Field) (n x : ℕ) (v : List ℕ) (inside : end_bit f ≤ 8 * n) (
       (λ i l. same_bit i (ltb i f.offset) (leb (end_bit f) i) refl refl))
 
 -- what writing a number into a field of a buffer leaves
-pub set_holds : {b after : List ℕ} {len r : ℕ} {f : Field} → Clean b len → FieldWithin f (length b) → (z : ℤ)
+pub set_holds : {b after : List ℕ} {len r : ℕ} (f : Field) → Clean b len → is_int_type f.type ≡ true → end_bit f ≤ 8 * length b → (z : ℤ)
     → after ≡ set_field_bits f (modulo z (modulus f.type)) b → r ≡ max len ((end_bit f - 1) / 8 + 1) → Holds (set_field f z (take len b)) (length b) after r
-set_holds {b} {after} {len} {r} {f} c w z e q =
+set_holds {b} {after} {len} {r} f c w t z e q =
     let h = c.holds in
     let n = length b in
     let v = take len b in
     let x = modulo z (modulus f.type) in
     let l = length-set_field f z v in
     record {
-      bytes = e ∙ (ap (set_field_bits f x) h.bytes ∙ set_field_bits-padded f n x v w.ends (type-wide f.type w.typed) h.within);
+      bytes = e ∙ (ap (set_field_bits f x) h.bytes ∙ set_field_bits-padded f n x v t (type-wide f.type w) h.within);
       size = q ∙ omega (arith, h.size);
-      within = omega (arith, w.ends, type-wide f.type w.typed, h.within);
+      within = omega (arith, t, type-wide f.type w, h.within);
     }

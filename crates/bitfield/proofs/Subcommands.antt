@@ -1,52 +1,66 @@
 -- The subcommands by value, one by one.
 use mathlib.Core.Path.{◌≡◌, refl, sym, ap, ◌∙◌, subst}
-use mathlib.Core.Bool.{true, false}
-use mathlib.Core.List.{List, [], ◌∷◌}
+use mathlib.Core.Bool.{Bool, true, false, and-false}
+use mathlib.Core.List.{List, [], ◌∷◌, map}
 use mathlib.Core.Option.{Option, none, some}
-use Prim.Native.Nat.{ℕ, zero, suc, ◌+◌, ◌-◌, ◌*◌, ◌≤◌, ◌<◌}
+use Prim.Native.Nat.{ℕ, zero, suc, ◌+◌, ◌*◌, ◌≤◌, ◌<◌}
 use native.Mathlib.Numerals.{add-one}
 use native.Mathlib.Omega.{arith}
-use lib.ListN.{length, get_or}
+use lib.ListN.{length, get_or, take, drop, drop_of_length-le, length-map}
+use lib.Seq.{drop-cons, length-take-le}
+use Rattle.std.specs.List.{AllWithin, HoldsAt}
+use Rattle.std.specs.Bool.{MatchBool}
 use lib.Dec.{leb}
 use lib.IntN.{ℤ, ◌+ℤ◌}
 use borrow.Author.Tests.{leb-true, le-leb}
-use denote.Enum.Declared.{tag_of}
-use types.Run.{OneOf, miss}
-use Rattle.model.specs.Field.{is_int_type, Field, end_bit, get_field, set_field}
+use Rattle.model.specs.Field.{Field, end_bit, get_field, set_field}
 use Rattle.model.specs.Overflow.{overflow}
 use Rattle.model.specs.Bitfield as model
 use Rattle.model.specs.Bitfield.{ends_within, all_end_within, run_sub}
-use Rattle.model.proofs.Basics.{and_left, and_right}
+use Rattle.model.proofs.Basics.{All, and_left, and_right}
 use Rattle.model.proofs.Runs.{Typed}
-use Rattle.command.specs.Subcommand.{model_int, model_field, model_mode, model_operation, model_sub, places, subs_from, model_subs}
+use Rattle.command.specs.Subcommand.{model_field, model_mode, model_operation, model_sub, model_subs}
 use Rattle.command.specs.declared.subcommand.Operation.{Operation}
 use Rattle.command.specs.declared.subcommand.Operation.TheVariants.{Get, Set, Incrby}
 use Rattle.command.specs.declared.subcommand.Sub.{Sub}
 use Rattle.command.specs.declared.subcommand.Subs.{Subs}
-use Rattle.command.specs.contracts.subcommand.Operation.{the_type}
+use Rattle.command.specs.declared.subcommand.Field as code
 use Rattle.command.specs.declared.subcommand.Mode.{Mode}
-use Rattle.bitfield.specs.Run.{Holds, FieldWithin, Runnable, Leaves}
-use Rattle.bitfield.specs.declared.Answered.TheVariants.{Number, Nil}
+use Rattle.bitfield.specs.Run.{Holds, Leaves}
+use Rattle.std.specs.Prelude.{Some, None}
 use Rattle.bitfield.specs.declared.Done.{Done}
 
 -- ---- one after the other
 
--- from place i on there is one, where fewer than `count` are passed
-pub subs-next : (s : Subs) (i : ℕ) {count : ℕ} → i < count → subs_from s i (count - i) ≡ model_sub (get_or (places s) i s.fourth) ∷ subs_from s (i + 1) (count - (i + 1))
-subs-next s i {count} h =
-    let e : count - i ≡ suc (count - (i + 1)) = omega arith in
-    ap (subs_from s i) e ∙ ap (λ (j : ℕ). model_sub (get_or (places s) i s.fourth) ∷ subs_from s j (count - (i + 1))) (sym (add-one i))
+-- the subcommands of a command from place i on
+abbrev pub subs_from : Subs → (i : ℕ) → List model.Sub
+subs_from s i = map model_sub (drop i (take s.count s.list))
 
-pub subs-none : (s : Subs) (i : ℕ) {count : ℕ} → count ≤ i → subs_from s i (count - i) ≡ []
-subs-none s i {count} h = let e : count - i ≡ 0 = omega arith in ap (subs_from s i) e
+-- there is one, where one is left
+pub subs-next : (s : Subs) (i : ℕ) (x : Sub) → i < length (take s.count s.list) → x ≡ get_or (take s.count s.list) i x → subs_from s i ≡ model_sub x ∷ subs_from s (i + 1)
+subs-next s i x h e = rw (add-one, drop-cons (take s.count s.list) i x, ← e) refl
 
-length_from : (s : Subs) (i n : ℕ) → length (subs_from s i n) ≡ n
-length_from s i zero = refl
-length_from s i (suc n) = ap suc (length_from s (suc i) n)
+pub subs-none : (s : Subs) (i : ℕ) → length (take s.count s.list) ≤ i → subs_from s i ≡ []
+subs-none s i h = rw (drop_of_length-le (take s.count s.list) h) refl
 
-pub length-subs : (s : Subs) → length (model_subs s) ≡ s.count
+-- as many as are counted, in a list of four
+pub length-subs : (s : Subs) → length s.list ≡ 4 → length (model_subs s) ≡ s.count
 unfolding model_subs
-length-subs s = length_from s 0 s.count
+length-subs s h = length-map (take s.count s.list) model_sub ∙ length-take-le s.count s.list (omega (arith, s.few))
+
+-- each is of a type that is known
+pub typed-subs : (s : Subs) → All Typed (model_subs s)
+unfolding model_subs
+typed-subs s = go (take s.count s.list)
+  where
+    typed : (f : code.Field) (o : Operation) (z : ℤ) → Typed (model_operation o (model_field f) z)
+    typed f Get z = f.int.known
+    typed f Set z = f.int.known
+    typed f (Incrby m) z = f.int.known
+
+    go : (xs : List Sub) → All Typed (map model_sub xs)
+    go [] = tt
+    go (x ∷ xs) = (typed x.field x.operation x.number, go xs)
 
 -- ---- where a field ends
 
@@ -54,11 +68,21 @@ length-subs s = length_from s 0 s.count
 abbrev pub at : Sub → Field
 at s = model_field s.field
 
--- one that may write is a SET or an INCRBY
-pub writing-ends : (o : Operation) (f : Field) (z : ℤ) (n : ℕ) → OneOf (1 ∷ 2 ∷ []) (tag_of the_type o) → ends_within n (model_operation o f z) ≡ leb (end_bit f) (8 * n)
-writing-ends Get f z n h = absurd (miss (1 ∷ 2 ∷ []) 0 tt h)
-writing-ends Set f z n h = refl
-writing-ends (Incrby m) f z n h = refl
+-- all end within n bytes, or one does not
+module _ (n : ℕ) where
+  all-end : (xs : List Sub) → AllWithin (λ s. ends_within n (model_sub s) ≡ true) xs 0 (length xs) → all_end_within n (map model_sub xs) ≡ true
+  all-end [] h = refl
+  all-end (x ∷ xs) h = rw (h 0 x (omega arith) (omega arith)) (all-end xs (λ k d l u. h (suc k) d (omega arith) (omega arith)))
+
+  one-past : (k : ℕ) (xs : List Sub) → k < length xs → HoldsAt (λ s. ends_within n (model_sub s) ≡ false) xs k → all_end_within n (map model_sub xs) ≡ false
+  one-past k [] l h = absurd (omega arith)
+  one-past zero (x ∷ xs) l h = rw (h x)
+  one-past (suc k) (x ∷ xs) l h = rw (one-past k xs (omega arith) h) (and-false (ends_within n (model_sub x)))
+
+  pub ends-told : (xs : List Sub) (r : Bool) → MatchBool r (AllWithin (λ s. ends_within n (model_sub s) ≡ true) xs 0 (length xs))
+      ((k : ℕ) × (k < length xs) × HoldsAt (λ s. ends_within n (model_sub s) ≡ false) xs k) → r ≡ all_end_within n (map model_sub xs)
+  ends-told xs true h = sym (all-end xs h)
+  ends-told xs false h = sym (one-past h.0 xs h.1 h.2)
 
 -- what ends within n bytes ends within more
 pub all-end-more : (n m : ℕ) (ss : List model.Sub) → n ≤ m → all_end_within n ss ≡ true → all_end_within m ss ≡ true
@@ -75,24 +99,6 @@ all-end-more n m (s ∷ ss) h e =
     first (model.set f z) q = further f q
     first (model.incrby f k z) q = further f q
 
--- ---- what its field keeps to
-
-pub typed-field : (s : Sub) → Typed (model_sub s) → is_int_type (model_int s.field.int) ≡ true
-typed-field s h = go s.operation h
-  where
-    go : (o : Operation) → Typed (model_operation o (at s) s.number) → is_int_type (model_int s.field.int) ≡ true
-    go Get h = h
-    go Set h = h
-    go (Incrby m) h = h
-
--- one that may write, which `refl` shows of its operation, has its field within the buffer
-pub field-within : (s : Sub) {o : Operation} {n : ℕ} → s.operation ≡ o → ends_within n (model_operation o (at s) s.number) ≡ leb (end_bit (at s)) (8 * n)
-    → Runnable n (model_sub s) → FieldWithin (at s) n
-field-within s {n = n} e w h = record {
-  typed = typed-field s h.typed;
-  ends = leb-true (end_bit (at s)) (8 * n) (sym (ap (λ (o : Operation). ends_within n (model_operation o (at s) s.number)) e ∙ w) ∙ h.ends);
-}
-
 -- ---- what one leaves, by what it does
 
 -- what an INCRBY of a mode comes to on the value v
@@ -108,7 +114,7 @@ module _ (s : Sub) (v : List ℕ) {n : ℕ} {b : List ℕ} where
   leaves-as {o} {r} e = subst (λ (o : Operation). Leaves (run_sub (model_operation o (at s) s.number) v) n b r) (sym e)
 
   pub get-leaves : {len : ℕ} {z : ℤ} → s.operation ≡ Get → Holds v n b len → z ≡ get_field (at s) v
-      → Leaves (run_sub (model_sub s) v) n b (record { len = len; wrote = false; answered = Number z })
+      → Leaves (run_sub (model_sub s) v) n b (record { len = len; wrote = false; answered = Some z })
   unfolding run_sub
   get-leaves e h q = leaves-as e (record { holds = h; wrote = refl; answered = ap some q })
 
@@ -122,7 +128,7 @@ module _ (s : Sub) (v : List ℕ) {n : ℕ} {b : List ℕ} where
   set-leaves e p q h = leaves-as e (stored-as p q h)
 
   pub nil-leaves : {len : ℕ} {m : Mode} → s.operation ≡ Incrby m → Holds v n b len → Sum s m v none
-      → Leaves (run_sub (model_sub s) v) n b (record { len = len; wrote = false; answered = Nil })
+      → Leaves (run_sub (model_sub s) v) n b (record { len = len; wrote = false; answered = None })
   unfolding run_sub
   nil-leaves e h q = leaves-as e (rw q (record { holds = h; wrote = refl; answered = refl }))
 

@@ -1,27 +1,17 @@
 -- A value in a buffer, and what subcommands by value leave of it.
-use Rattle.std.specs.Prelude.{ℕ, ◌*◌, ◌≤◌, ◌≡◌, true, List, map, length, take, ℤ}
-use Rattle.std.proofs.Math.Option.{Option, none, some}
+use Rattle.std.specs.Prelude.{ℕ, ◌≤◌, ◌≡◌, List, map, length, take}
 use Rattle.model.specs.Bytes.{padded}
 use Rattle.model.specs.Search.{live_record}
 use Rattle.model.specs.Resp.{scalars_bytes}
-use Rattle.model.specs.Field.{is_int_type, Field, end_bit}
 use Rattle.model.specs.Bitfield as model
 use Rattle.model.specs.Execute.{value_or_empty}
-use Rattle.model.specs.Bitfield.{Sub, ends_within, all_end_within, result_scalar}
-use Rattle.model.proofs.Basics.{All}
-use Rattle.model.proofs.Runs.{Typed}
+use Rattle.model.specs.Bitfield.{result_scalar}
+use Rattle.outcome.specs.Outcome.{to_model}
 use Rattle.slice.specs.Wrote.{Wrote}
 use Rattle.live.specs.declared.Target.{Target}
 use Rattle.live.specs.Under.{lookup_in}
-use Rattle.bitfield.specs.declared.Answered.{Answered}
-use Rattle.bitfield.specs.declared.Answered.TheVariants.{Number, Nil}
 use Rattle.bitfield.specs.declared.Done.{Done}
 use Rattle.bitfield.specs.declared.Ran.{Ran}
-
--- what a subcommand answers
-abbrev pub result_of : Answered → Option ℤ
-result_of (Number z) = some z
-result_of Nil = none
 
 -- the live record's value, and no bytes under an absent key
 abbrev pub stored_value : (t : List ℕ) → Target → List ℕ
@@ -38,26 +28,11 @@ pub record Clean (b : List ℕ) (len : ℕ) : Type 0 where
   pub holds : Holds (take len b) (length b) b len
   pub small : length b ≤ 128
 
--- a field of a known type that lies within n bytes
-pub record FieldWithin (f : Field) (n : ℕ) : Type 0 where
-  pub typed : is_int_type f.type ≡ true
-  pub ends : end_bit f ≤ 8 * n
-
--- a subcommand that may run on a value of at most n bytes
-pub record Runnable (n : ℕ) (s : Sub) : Type 0 where
-  pub typed : Typed s
-  pub ends : ends_within n s ≡ true
-
--- likewise several
-pub record AllRunnable (n : ℕ) (ss : List Sub) : Type 0 where
-  pub typed : All Typed ss
-  pub ends : all_end_within n ss ≡ true
-
 -- what a subcommand that came to d leaves in a buffer of n bytes, b after it, and what is told of it
 pub record Leaves (d : model.Done) (n : ℕ) (b : List ℕ) (r : Done) : Type 0 where
   pub holds : Holds d.value n b r.len
   pub wrote : r.wrote ≡ d.wrote
-  pub answered : result_of r.answered ≡ d.result
+  pub answered : to_model r.answered ≡ d.result
 
 -- what subcommands that came to d leave: the buffer b, and the text of their answers, from `old` to `text`
 pub record LeavesAll (d : model.Ran) (n : ℕ) (b old text : List ℕ) (r : Ran) : Type 0 where

@@ -1,10 +1,10 @@
 -- The words that are left to add, as they are counted: line and bulk strings are read at their places.
 use Prim.Native.Nat.{ℕ, zero, suc, ◌-◌, ◌≤◌, ◌<◌}
 use native.Mathlib.Omega.{arith}
-use mathlib.Core.Path.{◌≡◌, refl, sym, ap, ◌∙◌}
-use mathlib.Core.Bool.{true, cond, ◌&&◌}
+use mathlib.Core.Path.{◌≡◌, refl, ap, ◌∙◌}
+use mathlib.Core.Bool.{cond, ◌&&◌}
 use mathlib.Core.List.{List, [], ◌∷◌}
-use mathlib.Core.Option.{Option, none, some, get_or}
+use mathlib.Core.Option.{Option, none, some}
 use lib.ListN.{length, drop, drop_of_length-le, length-drop}
 use lib.Dec.{leb}
 use borrow.Author.Tests.{le-leb, lt-leb}
@@ -13,24 +13,22 @@ use Rattle.model.specs.Resp.{Taken, array_mark, read_line, read_bulk}
 use Rattle.model.specs.Build.{bulks_left, words_left}
 use Rattle.model.proofs.Build.{bulks_left-nil}
 use Rattle.resp.specs.Words.{line_from, word_from}
-use Rattle.resp.specs.declared.Line.TheVariants.{Malformed as NoLine}
-use Rattle.resp.specs.declared.Word.TheVariants.{Malformed}
+use Rattle.std.specs.Prelude.{None}
 use Rattle.resp.proofs.Lines.{LineAt, line-malformed}
-use Rattle.resp.proofs.Words.{WordAt, word-malformed}
-
--- how many words are left, 0 where that is none
-abbrev pub count : Option ℕ → ℕ
-count o = get_or o 0
+use Rattle.resp.proofs.Bulks.{WordAt, word-malformed}
 
 -- ---- bulk strings
-
-pub left-zero : (s : List ℕ) → count (bulks_left 0 s) ≡ 0
-left-zero [] = refl
-left-zero (c ∷ s) = refl
 
 module _ (s : List ℕ) (at n : ℕ) where
   pub left_end : length s ≤ at → bulks_left n (drop at s) ≡ some n
   left_end h = rw (drop_of_length-le s h) (bulks_left-nil n)
+
+  pub left-past : at < length s → n ≡ 0 → bulks_left n (drop at s) ≡ none
+  left-past h k = rw k (go (drop at s) refl)
+    where
+      go : (x : List ℕ) → drop at s ≡ x → bulks_left 0 x ≡ none
+      go [] e = absurd (omega (arith, length-drop at s, ap length e))
+      go (c ∷ x) e = refl
 
   module _ (h : at < length s) (k : 0 < n) where
     -- a word is to be read there
@@ -42,7 +40,7 @@ module _ (s : List ℕ) (at n : ℕ) where
         go (suc n) [] k e = absurd (omega (arith, length-drop at s, ap length e))
         go (suc n) (c ∷ x) k e = let p : suc n - 1 ≡ n = omega arith in rw p
 
-    pub left-malformed : word_from s at ≡ Malformed → bulks_left n (drop at s) ≡ none
+    pub left-malformed : word_from s at ≡ None → bulks_left n (drop at s) ≡ none
     left-malformed e = reading ∙ rw (word-malformed s at e)
 
     pub left-next : {start end next : ℕ} → WordAt s at start end next → bulks_left n (drop at s) ≡ bulks_left (n - 1) (drop next s)
@@ -58,7 +56,7 @@ module _ (s : List ℕ) where
   too_many : (l : Taken ℕ) → 16 < l.value → counted l ≡ none
   too_many l h = rw (le-leb 1 l.value (omega arith), lt-leb l.value 16 h)
 
-  pub left-unread : line_from array_mark s 0 ≡ NoLine → words_left s ≡ none
+  pub left-unread : line_from array_mark s 0 ≡ None → words_left s ≡ none
   unfolding words_left
   left-unread e = go (read_line array_mark s) refl
     where
@@ -71,10 +69,10 @@ module _ (s : List ℕ) where
     unfolding words_left
     left-many h = rw (l.reads, le-leb 1 v (omega arith), lt-leb v 16 h)
 
-    pub left-few : v ≤ 16 → count (words_left s) ≡ count (bulks_left v (drop next s))
+    pub left-zero : v < 1 → words_left s ≡ none
     unfolding words_left
-    left-few h = rw (l.reads, le-leb v 16 h) (go v)
-      where
-        go : (v : ℕ) → count (cond (leb 1 v && true) (bulks_left v (drop next s)) none) ≡ count (bulks_left v (drop next s))
-        go zero = sym (left-zero (drop next s))
-        go (suc v) = rw (le-leb 1 (suc v) (omega arith))
+    left-zero h = rw (l.reads, lt-leb 1 v h)
+
+    pub left-few : 1 ≤ v → v ≤ 16 → words_left s ≡ bulks_left v (drop next s)
+    unfolding words_left
+    left-few k h = rw (l.reads, le-leb 1 v k, le-leb v 16 h)

@@ -1,5 +1,5 @@
 -- A command that is begun or added to in a buffer: what is written there is the model's, and a refusal leaves the buffer.
-use Prim.Native.Nat.{ℕ, zero, suc, ◌+◌, ◌≤◌, ◌<◌}
+use Prim.Native.Nat.{ℕ, ◌+◌, ◌≤◌, ◌<◌}
 use native.Mathlib.Omega.{arith}
 use native.Mathlib.Nat.{zero-add}
 use mathlib.Core.Path.{◌≡◌, refl, sym, ap, ◌∙◌}
@@ -14,9 +14,8 @@ use Rattle.model.specs.Optional.{◌>>=◌}
 use Rattle.model.specs.Resp.{array_mark, command_limit, word_limit, line, bulk_bytes}
 use Rattle.model.specs.Build.{up_to, begin, words_left, add_word, placed, begin_in, add_word_in}
 use Rattle.model.proofs.Basics.{and_left, and_right}
-use Rattle.model.proofs.Build.{add_word-some, add_word-adds}
+use Rattle.model.proofs.Build.{add_word-some}
 use Rattle.slice.specs.Wrote.{Wrote}
-use Rattle.build.proofs.Left.{count}
 
 -- ---- a command as it is placed
 
@@ -64,21 +63,17 @@ module _ (s w : List ℕ) where
       go none e = refl
       go (some t) e = let a = add_word-some s w t e in absurd (omega (arith, ap length a.0))
 
-  add_word-whole : count (words_left s) ≡ 0 → add_word s w ≡ none
+  add_word-unread : words_left s ≡ none → add_word s w ≡ none
   unfolding add_word
-  add_word-whole e = go (words_left s) e
-    where
-      go : (o : Option ℕ) → count o ≡ 0 → o >>= (λ n. cond (leb 1 n) (up_to command_limit (s ++ bulk_bytes w)) none) ≡ none
-      go none e = refl
-      go (some n) e = rw (lt-leb 1 n (omega arith))
+  add_word-unread e = rw e
 
-  add_word-lacking : (count (words_left s) ≡ 0 → ⊥) → length (s ++ bulk_bytes w) ≤ command_limit → add_word s w ≡ some (s ++ bulk_bytes w)
-  add_word-lacking n h = go (words_left s) refl
-    where
-      go : (o : Option ℕ) → words_left s ≡ o → add_word s w ≡ some (s ++ bulk_bytes w)
-      go none e = absurd (n (ap count e))
-      go (some zero) e = absurd (n (ap count e))
-      go (some (suc m)) e = add_word-adds s w m e h
+  add_word-whole : {n : ℕ} → words_left s ≡ some n → n < 1 → add_word s w ≡ none
+  unfolding add_word
+  add_word-whole {n} e h = rw (e, lt-leb 1 n h)
+
+  add_word-lacking : {n : ℕ} → words_left s ≡ some n → 1 ≤ n → length (s ++ bulk_bytes w) ≤ command_limit → add_word s w ≡ some (s ++ bulk_bytes w)
+  unfolding add_word
+  add_word-lacking {n} e k h = rw (e, le-leb 1 n k, le-leb (length (s ++ bulk_bytes w)) command_limit h)
 
 -- the test of the room: the word's bulk string ends within the limit of a command, and within the buffer
 abbrev fits : (b w : List ℕ) (len : ℕ) → Bool
@@ -109,12 +104,15 @@ module _ (b w : List ℕ) (len : ℕ) where
     pub add-over : command_limit < len → add_word_in b len w ≡ (b, 0)
     add-over k = not-added (add_word-over (take len b) w (omega (arith, end)))
 
-    pub add-whole : count (words_left (take len b)) ≡ 0 → add_word_in b len w ≡ (b, 0)
-    add-whole e = not-added (add_word-whole (take len b) w e)
+    pub add-unread : words_left (take len b) ≡ none → add_word_in b len w ≡ (b, 0)
+    add-unread e = not-added (add_word-unread (take len b) w e)
 
-    module _ (lacks : count (words_left (take len b)) ≡ 0 → ⊥) where
+    pub add-whole : {n : ℕ} → words_left (take len b) ≡ some n → n < 1 → add_word_in b len w ≡ (b, 0)
+    add-whole e k = not-added (add_word-whole (take len b) w e k)
+
+    module _ {n : ℕ} (lacks : words_left (take len b) ≡ some n) (some-left : 1 ≤ n) where
       adds : len + length (bulk_bytes w) ≤ command_limit → add_word_in b len w ≡ placed b (up_to (length b) (take len b ++ bulk_bytes w))
-      adds k = adds-to ∙ ap (λ (o : Option (List ℕ)). placed b (o >>= up_to (length b))) (add_word-lacking (take len b) w lacks (omega (arith, end)))
+      adds k = adds-to ∙ ap (λ (o : Option (List ℕ)). placed b (o >>= up_to (length b))) (add_word-lacking (take len b) w lacks some-left (omega (arith, end)))
 
       pub add-long : fits b w len ≡ false → add_word_in b len w ≡ (b, 0)
       add-long e = go (leb (len + length (bulk_bytes w)) command_limit) refl

@@ -1,48 +1,45 @@
 // Building a command in RESP2, word by word in a borrowed buffer.
 #![tactic(auto)]
 
-ghost use Rattle.std.specs.Prelude.{◌≡◌, ◌&&◌, ◌+◌, ◌≤◌, length, drop, leb};
+ghost use Rattle.std.specs.Prelude.{◌≡◌, ◌&&◌, ◌+◌, ◌≤◌, ◌<◌, IfSome, length, drop, leb};
 ghost use Rattle.std.proofs.Math.Option.{get_or};
+ghost use Rattle.outcome.specs.Outcome.{from_model, to_model};
 ghost use Rattle.model.specs.Resp.{command_limit, bulk_bytes};
 ghost use Rattle.model.specs.Build.{bulks_left, words_left, begin_in, add_word_in};
 
-use resp::{Line, Word};
+use resp::Line;
 
-// How many of `n` words are left to add, where bulk strings stand from place `at` on; 0 where anything else stands there.
-fn bulks_left(s: &[u8], at: usize, n: usize) -> usize
+// How many of `n` words are left to add, where bulk strings stand from place `at` on; none where anything else stands there.
+fn bulks_left(s: &[u8], at: usize, n: usize) -> Option<usize>
     requires { length s.now ≤ command_limit }
-    ensures { result ≡ get_or (bulks_left n (drop at s.now)) 0 }
+    ensures { result ≡ from_model (bulks_left n (drop at s.now)) }
 {
     let mut place = at;
     let mut left = n;
+    // Kept: a bulk string says itself where the next one begins, so that the loop has no range to go over
     while place < s.len() {
-        if left == 0 {
-            return 0;
-        }
-        let Word::At {
-            start: _,
-            end: _,
-            next,
-        } = resp::read_bulk(s, place)
-        else {
-            return 0;
+        left = left.checked_sub(1)?;
+        let Some(word) = resp::read_bulk(s, place) else {
+            return None;
         };
-        place = next;
-        left -= 1;
+        place = word.next;
     }
-    left
+    Some(left)
 }
 
-// How many words are left to add to a command that is begun; 0 where none is.
-fn words_left(s: &[u8]) -> usize
+// How many words are left to add to a command that is begun; none where the bytes begin no command.
+fn words_left(s: &[u8]) -> Option<usize>
     requires { length s.now ≤ command_limit }
-    ensures { result ≡ get_or (words_left s.now) 0 }
+    ensures { result ≡ from_model (words_left s.now) }
 {
-    let Line::Number { value, next } = resp::read_line(s, 0, b'*') else {
-        return 0;
+    let Some(Line { value, next }) = resp::read_line(s, 0, b'*') else {
+        return None;
     };
+    if value < 1 {
+        return None;
+    }
     if 16 < value {
-        return 0;
+        return None;
     }
     bulks_left(s, next, value)
 }
@@ -67,38 +64,41 @@ fn word_fits(cap: usize, len: usize, word: &[u8]) -> bool
     (end <= 512) & (end <= cap)
 }
 
-// Begins a command of `words` words at the front of a buffer: its length, and 0 where it is refused. Words are 1 to 16; a refusal changes nothing.
-pub fn begin_command(buffer: &mut [u8], words: usize) -> usize
-    ensures { begin_in buffer.old words ≡ (buffer.new, result) }
+// Begins a command of `words` words at the front of a buffer: its length, none where it is refused. Words are 1 to 16; a refusal changes nothing.
+pub fn begin_command(buffer: &mut [u8], words: usize) -> Option<usize>
+    ensures built { begin_in buffer.old words ≡ (buffer.new, get_or (to_model result) 0) }
+    ensures some { IfSome result (λ n. 0 < n) }
 {
     if words < 1 {
-        return 0;
+        return None;
     }
     if 16 < words {
-        return 0;
+        return None;
     }
     if buffer.len() < 3 + number::count_digits(words as u64) {
-        return 0;
+        return None;
     }
-    piece::put_array(buffer, 0, words)
+    Some(piece::put_array(buffer, 0, words))
 }
 
-// Adds a word to the command that the first `len` bytes of a buffer begin: its length then, and 0 where it is refused. They are refused where
+// Adds a word to the command that the first `len` bytes of a buffer begin: its length then, none where it is refused. They are refused where
 // they begin no command, or one that lacks no word, and a word for which there is no room. A refusal changes nothing.
-pub fn add_word(buffer: &mut [u8], len: usize, word: &[u8]) -> usize
-    ensures { add_word_in buffer.old len word.now ≡ (buffer.new, result) }
+pub fn add_word(buffer: &mut [u8], len: usize, word: &[u8]) -> Option<usize>
+    ensures built { add_word_in buffer.old len word.now ≡ (buffer.new, get_or (to_model result) 0) }
+    ensures some { IfSome result (λ n. 0 < n) }
 {
     if buffer.len() < len {
-        return 0;
+        return None;
     }
     if 512 < len {
-        return 0;
+        return None;
     }
-    if words_left(&buffer[..len]) < 1 {
-        return 0;
+    let left = words_left(&buffer[..len])?;
+    if left < 1 {
+        return None;
     }
-    if word_fits(buffer.len(), len, word) {
-        return piece::put_bulk(buffer, len, word);
+    if !word_fits(buffer.len(), len, word) {
+        return None;
     }
-    0
+    Some(piece::put_bulk(buffer, len, word))
 }

@@ -1,2 +1,2 @@
--- Laws of expiries in range.
+-- Laws of the sum of an expiry.
 pub mod Times

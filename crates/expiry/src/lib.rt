@@ -6,9 +6,11 @@ ghost use Rattle.model.specs.Checked.{ok};
 ghost use Rattle.model.specs.Table.{time_limit};
 ghost use Rattle.model.specs.Options.{unsaid, until, expire_in};
 ghost use Rattle.command.specs.Command.{model_expire};
-ghost use Rattle.expiry.specs.Expiry.{model_lifetime, checked_expire};
+ghost use Rattle.expiry.specs.Expiry.{model_lifetime};
+ghost use Rattle.outcome.specs.Outcome.{checked};
 
 use command::Expire;
+use outcome::Refusal;
 use record::TIME_LIMIT;
 
 // What is said of the expiry: nothing, KEEPTTL, or a time word with its number.
@@ -21,13 +23,6 @@ pub enum Lifetime {
         from_now: bool,
         number: i64,
     },
-}
-
-// What becomes of the expiry with number 0, or the number of the refusal.
-#[derive(Clone, Copy)]
-pub struct ReadExpire {
-    pub number: u32,
-    pub expire: Expire,
 }
 
 // Whether `n` units after `from` is at most 2^62. The product may not fit: that of the upper half of `n` tells.
@@ -43,27 +38,18 @@ fn in_time(from: u64, unit: u16, n: u64) -> bool
 }
 
 // The expiry `z` units after `from`, from 1 unit on.
-fn expiry(from: u64, unit: u16, z: i64) -> ReadExpire
+fn expiry(from: u64, unit: u16, z: i64) -> Result<Expire, Refusal>
     requires { from ≤ time_limit }
-    ensures { checked_expire result ≡ expire_in from false (until unit true z) }
+    ensures { checked model_expire result ≡ expire_in from false (until unit true z) }
 {
     if z < 1 {
-        return ReadExpire {
-            number: 10,
-            expire: Expire::Keep,
-        };
+        return Err(Refusal::Expiry);
     }
     let n = z as u64;
-    if in_time(from, unit, n) {
-        return ReadExpire {
-            number: 0,
-            expire: Expire::At(from + unit as u64 * n),
-        };
+    if !in_time(from, unit, n) {
+        return Err(Refusal::Expiry);
     }
-    ReadExpire {
-        number: 10,
-        expire: Expire::Keep,
-    }
+    Ok(Expire::At(from + unit as u64 * n))
 }
 
 // The time that a time word counts from.
@@ -87,19 +73,13 @@ pub fn expire_unsaid(keeps: bool) -> Expire
 }
 
 // What becomes of the expiry at the time `time`: test 10.
-pub fn expire_in(time: u64, keeps: bool, lifetime: Lifetime) -> ReadExpire
+pub fn expire_in(time: u64, keeps: bool, lifetime: Lifetime) -> Result<Expire, Refusal>
     requires { time ≤ time_limit }
-    ensures { checked_expire result ≡ expire_in time keeps (model_lifetime lifetime) }
+    ensures { checked model_expire result ≡ expire_in time keeps (model_lifetime lifetime) }
 {
     match lifetime {
-        Lifetime::Unsaid => ReadExpire {
-            number: 0,
-            expire: expire_unsaid(keeps),
-        },
-        Lifetime::Kept => ReadExpire {
-            number: 0,
-            expire: Expire::Keep,
-        },
+        Lifetime::Unsaid => Ok(expire_unsaid(keeps)),
+        Lifetime::Kept => Ok(Expire::Keep),
         Lifetime::Until {
             unit,
             from_now,

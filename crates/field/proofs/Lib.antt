@@ -1,4 +1,3 @@
 -- Laws for the proofs of this crate and of those above it.
 pub mod Bytewise
-pub mod Sides
 pub mod Words

@@ -1,10 +1,9 @@
 -- Numbers of a type in words of 64 bits: masks, the ends of a range, and the sum that wraps.
-use Rattle.std.proofs.Common.{◌≡◌, ℕ, ◌+◌, ◌-◌, ◌*◌, ◌/◌, ◌%◌, ◌^◌, ◌<◌, ◌≤◌, true, false, ℤ, pos, ◌+ℤ◌, ◌-ℤ◌, neg_ℤ, sym, ap, ◌∙◌, subst, mod-eq_of_lt, one-mul, arith, pow_pos, w64, SFits, to_z, ltb-true}
+use Rattle.std.proofs.Common.{◌≡◌, ℕ, suc, ◌+◌, ◌-◌, ◌*◌, ◌/◌, ◌%◌, ◌^◌, ◌<◌, ◌≤◌, true, false, ℤ, pos, negsuc, ◌+ℤ◌, ◌-ℤ◌, neg_ℤ, sym, ap, ◌∙◌, subst, mod-eq_of_lt, one-mul, arith, pow_pos, w64, SFits, of_z, ltb-true}
 use native.Mathlib.Nat.{add-mod-mod}
 use lib.Signed.{mag}
 use lib.Bits.{bit_and, and_mask}
 use lib.Pow.{pow-lt, high, ones_lt, ones_split}
-use mir.Facts.{to_z_pos}
 use Rattle.model.specs.Number.{signed_limit}
 use Rattle.model.specs.Field.{IntType, is_int_type, modulus, negatives, least, greatest, modulo, meaning}
 use Rattle.model.proofs.Integers.{modulo-add, modulo-low}
@@ -30,6 +29,11 @@ word_low z w h =
     let e : 64 - w + w ≡ 64 = omega arith in
     subst (λ (n : ℕ). modulo z (2 ^ n) % 2 ^ w ≡ modulo z (2 ^ w)) e (modulo-low z (64 - w) w)
 
+-- the bits of a number of 64 bits
+pub word_is : (z : ℤ) → SFits w64 z → of_z w64 z ≡ modulo z (2 ^ 64)
+word_is (pos n) f = sym (mod-eq_of_lt {n = n} {m = 2 ^ 64} (omega (arith, f.sfits)))
+word_is (negsuc n) f = ap (λ (k : ℕ). 2 ^ 64 - suc k) (sym (mod-eq_of_lt {n = n} {m = 2 ^ 64} (omega (arith, f.sfits))))
+
 -- ---- numbers of 64 bits
 
 -- what the machine reads back of a call's result
@@ -46,20 +50,9 @@ module _ (k : IntType) (law : is_int_type k ≡ true) where
 
   -- ---- the ends of the range
 
-  module _ (n : ℕ) (e : n ≡ modulus k - negatives k - 1) where
-    pub greatest-fits : SFits w64 (pos n)
-    greatest-fits = record { sfits = omega (arith, (ends k law).top) }
-
-    pub greatest-is : to_z w64 n ≡ greatest k
-    greatest-is = to_z_pos w64 greatest-fits.sfits ∙ ap pos e
-
   module _ (s : k.signed ≡ true) where
     pub twice : modulus k ≡ 2 * negatives k
     twice = modulus-signed k (ends k law).wide s
-
-    -- the greatest number's bits are the mask's without one
-    pub half-mask : (m : ℕ) → m ≡ modulus k - 1 → m / 2 ≡ modulus k - negatives k - 1
-    half-mask m e = omega (arith, twice, pow_pos k.width)
 
     -- minus the greatest number, less one, is the least
     minus : up (pos 0 -ℤ greatest k) + up (greatest k) ≡ dn (pos 0 -ℤ greatest k)

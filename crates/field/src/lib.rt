@@ -7,4 +7,4 @@ mod overflow;
 
 pub use bits::{read_bits, write_bits};
 pub use int::{bits_of, fits, number_of};
-pub use overflow::{Increased, increase};
+pub use overflow::increase;

@@ -2,5 +2,4 @@
 pub mod Figures
 pub mod Integers
 pub mod Reading
-pub mod Sums
 pub mod Writing

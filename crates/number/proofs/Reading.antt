@@ -10,45 +10,43 @@ use lib.Dec.{ltb, eqb}
 use lib.ListN.{length, get_or, drop, take, length-drop}
 use lib.Seq.{take_all}
 use lib.IntN.{ℤ, pos, negsuc, neg_ℤ}
-use borrow.Author.Tests.{le-leb, lt-leb, le-ltb, lt-ltb, ne_eqb, leb-true, leb-false, ltb-true, ltb-false, eqb-true, eqb-false}
+use borrow.Author.Tests.{le-ltb, lt-ltb, ne_eqb, leb-true, leb-false, ltb-true, ltb-false, eqb-true, eqb-false}
 use Rattle.model.specs.Optional.{◌>>=◌, only}
 use Rattle.model.specs.Number.{is_digit, read_digits, read_magnitude, read_int, is_signed, natural, read_below, read_signed, signed_limit}
 use Rattle.model.proofs.Basics.{only-some, map-some}
-use Rattle.number.specs.Answer.{sign_length, signed_from, negative_from}
-use Rattle.number.specs.declared.Signed.{Signed}
-use Rattle.number.specs.declared.Signed.TheVariants.{Value, Bad}
+use Rattle.std.specs.Prelude.{Some, None}
+use Rattle.std.specs.Prelude as code
+use Rattle.outcome.specs.Outcome.{from_model}
+use Rattle.number.specs.Answer.{sign_length, negative_from}
 
--- ---- what the answer says of the number read
+-- ---- what the answer says of what was read
 
-bad-value {ℓ} : {X : Type ℓ} {z : ℤ} → Bad ≡ Value z → X
-bad-value e = let z : ◌≡◌ {A = ℕ} 0 1 = cc in absurd (omega arith)
-
-pub signed-bad : (o : Option ℤ) → Bad ≡ signed_from o → o ≡ none
+pub signed-bad : {A : Type 0} (o : Option A) → None ≡ from_model o → o ≡ none
 signed-bad none e = refl
-signed-bad (some z) e = bad-value e
+signed-bad (some z) e = cc
 
-pub signed-value : (o : Option ℤ) (z : ℤ) → Value z ≡ signed_from o → o ≡ some z
-signed-value none z e = bad-value (sym e)
+pub signed-value : {A : Type 0} (o : Option A) (z : A) → Some z ≡ from_model o → o ≡ some z
+signed-value none z e = cc
 signed-value (some y) z e = cc
 
 -- ---- minus a number, as an answer
 
-pub negative-in : (n : ℕ) → n ≤ 2 ^ 63 → negative_from (some n) ≡ Value (neg_ℤ (pos n))
+pub negative-in : (n : ℕ) → n ≤ 2 ^ 63 → negative_from (some n) ≡ Some (neg_ℤ (pos n))
 negative-in zero h = refl
 negative-in (suc n) h = simp (lt-ltb n (2 ^ 63) h)
 
-pub negative-out : (n : ℕ) → 2 ^ 63 < n → negative_from (some n) ≡ Bad
+pub negative-out : (n : ℕ) → 2 ^ 63 < n → negative_from (some n) ≡ None
 negative-out zero h = absurd (omega arith)
 negative-out (suc n) h = simp (le-ltb n (2 ^ 63) (omega arith))
 
--- what the answer `Value v` says of what was read
+-- what the answer `Some v` says of what was read
 pub record Negative (o : Option ℕ) (v : ℤ) : Type 0 where
   pub n : ℕ
   pub is : o ≡ some n
   pub small : n ≤ 2 ^ 63
   pub value : v ≡ neg_ℤ (pos n)
 
-pub negative : (o : Option ℕ) (v : ℤ) → Value v ≡ negative_from o → Negative o v
+pub negative : (o : Option ℕ) (v : ℤ) → Some v ≡ negative_from o → Negative o v
 negative o v e =
     let q = only-some is_signed (map (λ n. neg_ℤ (pos n)) o) v (signed-value _ v e) in
     let m = map-some (λ n. neg_ℤ (pos n)) o v q.0 in
@@ -58,21 +56,11 @@ negative o v e =
     size zero h = omega arith
     size (suc n) h = ltb-true n (2 ^ 63) h
 
--- what the answer `Bad` says of it
-pub out : (n : ℕ) → Bad ≡ negative_from (some n) → 2 ^ 63 < n
-out n e = leb-false n (2 ^ 63) (not-eq-not.0 (λ l. bad-value (e ∙ negative-in n (leb-true n (2 ^ 63) l))))
+-- what the answer `None` says of it
+pub out : (n : ℕ) → None ≡ negative_from (some n) → 2 ^ 63 < n
+out n e = leb-false n (2 ^ 63) (not-eq-not.0 (λ l. let f = negative-in n (leb-true n (2 ^ 63) l) in cc))
 
 -- ---- digits
-
--- a byte that is a digit, and one that is not
-pub digit-in : (m c : ℕ) (s : List ℕ) → 48 ≤ c → c ≤ 57 → read_digits m (c ∷ s) ≡ read_digits (10 * m + (c - 48)) s
-digit-in m c s l h = simp (le-leb 48 c l, le-leb c 57 h)
-
-pub digit_low : (m c : ℕ) (s : List ℕ) → c < 48 → read_digits m (c ∷ s) ≡ none
-digit_low m c s l = simp (lt-leb 48 c l)
-
-pub digit-high : (m c : ℕ) (s : List ℕ) → 48 ≤ c → 57 < c → read_digits m (c ∷ s) ≡ none
-digit-high m c s l h = simp (le-leb 48 c l, lt-leb c 57 h)
 
 -- the first digit, then the rest
 first_by : (n : ℕ) (s : List ℕ) (t : Bool) → cond t (read_digits n s) none ≡ (cond t (some n) none >>= λ k. read_digits k s)
@@ -83,36 +71,36 @@ pub first : (m c : ℕ) (s : List ℕ) → read_digits m (c ∷ s) ≡ (read_dig
 first m c s = first_by (10 * m + (c - 48)) s (is_digit c)
 
 -- digits only add, so a number that is out of range stays so
-past_by : (n : ℕ) (s : List ℕ) (t : Bool) → negative_from (read_digits n s) ≡ Bad → negative_from (cond t (read_digits n s) none) ≡ Bad
+past_by : (n : ℕ) (s : List ℕ) (t : Bool) → negative_from (read_digits n s) ≡ None → negative_from (cond t (read_digits n s) none) ≡ None
 past_by n s true e = e
 past_by n s false e = refl
 
-past : (n : ℕ) (s : List ℕ) → 2 ^ 63 < n → negative_from (read_digits n s) ≡ Bad
+past : (n : ℕ) (s : List ℕ) → 2 ^ 63 < n → negative_from (read_digits n s) ≡ None
 past n [] h = negative-out n h
 past n (c ∷ s) h = past_by (10 * n + (c - 48)) s (is_digit c) (past (10 * n + (c - 48)) s (omega arith))
 
-pub stays-bad : (o : Option ℕ) (s : List ℕ) → Bad ≡ negative_from o → Bad ≡ negative_from (o >>= λ n. read_digits n s)
+pub stays-bad : (o : Option ℕ) (s : List ℕ) → None ≡ negative_from o → None ≡ negative_from (o >>= λ n. read_digits n s)
 stays-bad none s e = refl
 stays-bad (some n) s e = sym (past n s (out n e))
 
 -- ---- signed numbers
 
 -- without a minus
-abbrev pub plain_from : Option ℕ → Signed
-plain_from o = signed_from (only is_signed (map pos o))
+abbrev pub plain_from : Option ℕ → code.Option ℤ
+plain_from o = from_model (only is_signed (map pos o))
 
-plain-bad : (o : Option ℕ) → Bad ≡ negative_from o → plain_from o ≡ Bad
+plain-bad : (o : Option ℕ) → None ≡ negative_from o → plain_from o ≡ None
 plain-bad none e = refl
 plain-bad (some n) e = let h = out n e in simp (le-ltb n (2 ^ 63) (omega arith))
 
-pub plain_out : {o : Option ℕ} {v : ℤ} (r : Negative o v) → 2 ^ 63 ≤ r.n → plain_from o ≡ Bad
+pub plain_out : {o : Option ℕ} {v : ℤ} (r : Negative o v) → 2 ^ 63 ≤ r.n → plain_from o ≡ None
 plain_out r h = simp (r.is, le-ltb r.n (2 ^ 63) h)
 
-pub plain_in : {o : Option ℕ} {v : ℤ} (r : Negative o v) → r.n < 2 ^ 63 → plain_from o ≡ Value (pos r.n)
+pub plain_in : {o : Option ℕ} {v : ℤ} (r : Negative o v) → r.n < 2 ^ 63 → plain_from o ≡ Some (pos r.n)
 plain_in r h = simp (r.is, lt-ltb r.n (2 ^ 63) h)
 
 -- the text by its first byte
-pub text-none : (s : List ℕ) → length s ≡ 0 → Bad ≡ signed_from (read_signed s)
+pub text-none : (s : List ℕ) → length s ≡ 0 → None ≡ from_model (read_signed s)
 unfolding read_signed
 text-none [] e = refl
 text-none (c ∷ s) e = absurd (omega arith)
@@ -121,36 +109,27 @@ text-none (c ∷ s) e = absurd (omega arith)
 abbrev pub unsigned : List ℕ → List ℕ
 unsigned s = drop (sign_length (get_or s 0 0)) s
 
-pub text-minus : (s : List ℕ) → (length s ≡ 0 → ⊥) → get_or s 0 0 ≡ 45 → signed_from (read_signed s) ≡ negative_from (read_magnitude (unsigned s))
+pub text-minus : (s : List ℕ) → (length s ≡ 0 → ⊥) → get_or s 0 0 ≡ 45 → from_model (read_signed s) ≡ negative_from (read_magnitude (unsigned s))
 unfolding read_signed
 text-minus [] n e = absurd (n refl)
 text-minus (c ∷ s) n e = simp e
 
-pub text-other : (s : List ℕ) → (length s ≡ 0 → ⊥) → (get_or s 0 0 ≡ 45 → ⊥) → signed_from (read_signed s) ≡ plain_from (read_magnitude (unsigned s))
+pub text-other : (s : List ℕ) → (length s ≡ 0 → ⊥) → (get_or s 0 0 ≡ 45 → ⊥) → from_model (read_signed s) ≡ plain_from (read_magnitude (unsigned s))
 unfolding read_signed
 text-other [] n e = absurd (n refl)
 text-other (c ∷ s) n e = go (eqb c 43) refl
   where
-    go : (b : Bool) → eqb c 43 ≡ b → signed_from (read_signed (c ∷ s)) ≡ plain_from (read_magnitude (unsigned (c ∷ s)))
+    go : (b : Bool) → eqb c 43 ≡ b → from_model (read_signed (c ∷ s)) ≡ plain_from (read_magnitude (unsigned (c ∷ s)))
     go true f = simp (ne_eqb c 45 e, f)
     go false f = simp (ne_eqb c 45 e, f)
 
 -- what is out of range below 0 is so above
-pub text-bad : (s : List ℕ) → (length s ≡ 0 → ⊥) → Bad ≡ negative_from (read_magnitude (unsigned s)) → Bad ≡ signed_from (read_signed s)
+pub text-bad : (s : List ℕ) → (length s ≡ 0 → ⊥) → None ≡ negative_from (read_magnitude (unsigned s)) → None ≡ from_model (read_signed s)
 text-bad s n e = go (eqb (get_or s 0 0) 45) refl
   where
-    go : (b : Bool) → eqb (get_or s 0 0) 45 ≡ b → Bad ≡ signed_from (read_signed s)
+    go : (b : Bool) → eqb (get_or s 0 0) 45 ≡ b → None ≡ from_model (read_signed s)
     go true f = e ∙ sym (text-minus s n (eqb-true (get_or s 0 0) 45 f))
     go false f = sym (text-other s n (eqb-false (get_or s 0 0) 45 f) ∙ plain-bad (read_magnitude (unsigned s)) e)
-
--- the sign is part of the text
-pub sign-least : (s : List ℕ) → (length s ≡ 0 → ⊥) → sign_length (get_or s 0 0) ≤ length s
-sign-least s n = go (eqb (get_or s 0 0) 45) (eqb (get_or s 0 0) 43)
-  where
-    go : (a b : Bool) → cond a 1 (cond b 1 0) ≤ length s
-    go true b = omega arith
-    go false true = omega arith
-    go false false = omega arith
 
 -- the part from a place on
 pub rest-is : (k : ℕ) (s : List ℕ) → take (length s - k) (drop k s) ≡ drop k s

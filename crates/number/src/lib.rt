@@ -4,42 +4,25 @@
 ghost use Rattle.std.specs.Prelude.{◌≡◌, [], ◌∷◌, ℕ, suc, ◌+◌, ◌-◌, ◌*◌, ◌/◌, ◌%◌, ◌^◌, ◌≤◌, ◌<◌, length, leb, pos, neg_ℤ, nat_abs, ◌+ℤ◌};
 ghost use Rattle.model.specs.Number.{read_digits, read_magnitude, read_signed, read_below, read_version, read_flags, signed_limit, nat_text, int_text};
 ghost use Rattle.slice.specs.Wrote.{Wrote};
-ghost use Rattle.number.specs.Answer.{sign_length, signed_from, natural_from, sum_from, negative_from};
+ghost use Rattle.number.specs.Answer.{sign_length, sum_from, negative_from};
+ghost use Rattle.outcome.specs.Outcome.{from_model};
 
-// A signed number that a text says, if it says one in range.
-#[derive(Clone, Copy)]
-pub enum Signed {
-    Value(i64),
-    Bad,
-}
-
-// A natural number that a text says, if it says one in range.
-#[derive(Clone, Copy)]
-pub enum Natural {
-    Value(u64),
-    Bad,
-}
-
-// A sum, if it fits, or the side on which it leaves 64 signed bits.
-#[derive(Clone, Copy)]
-pub enum Sum {
-    Fits(i64),
+// The side on which a number leaves its range.
+#[derive(Clone, Copy, Debug, PartialEq, Eq)]
+pub enum Side {
     Under,
     Over,
 }
 
-// The least and the greatest signed number of 64 bits.
-const LEAST: i64 = -9223372036854775808;
-
-const MOST: i64 = 9223372036854775807;
 // Any digit can follow a number above this one, and none a number below it.
-const LEAST_TENTH: i64 = LEAST / 10;
+const LEAST_TENTH: i64 = i64::MIN / 10;
 
 // Whether the digit d can follow `acc`, which is 0 or below, within 64 signed bits.
 fn has_room(acc: i64, d: i64) -> bool
     requires { (acc ≡ neg_ℤ (pos (nat_abs acc))) × (d ≡ pos (nat_abs d)) × (nat_abs d ≤ 9) }
     ensures { result ≡ leb (10 * nat_abs acc + nat_abs d) signed_limit }
 {
+    // Kept: `cmp` and a match of its three cases was tried; it is no plainer, and a digit takes five instructions more
     if LEAST_TENTH < acc {
         return true;
     }
@@ -50,49 +33,42 @@ fn has_room(acc: i64, d: i64) -> bool
 }
 
 // The number `acc`, which is 0 or below, with the digit `c` after it. Below 0 the range has one number more.
-fn push(acc: i64, c: u8) -> Signed
+fn push(acc: i64, c: u8) -> Option<i64>
     requires { acc ≡ neg_ℤ (pos (nat_abs acc)) }
     ensures { result ≡ negative_from (read_digits (nat_abs acc) (c ∷ [])) }
 {
-    let d = c as i64 - 48;
-    if d < 0 {
-        return Signed::Bad;
+    if !c.is_ascii_digit() {
+        return None;
     }
-    if 9 < d {
-        return Signed::Bad;
-    }
+    let d = (c - b'0') as i64;
     if !has_room(acc, d) {
-        return Signed::Bad;
+        return None;
     }
-    Signed::Value(acc * 10 - d)
+    Some(acc * 10 - d)
 }
 
 // Minus the number that digits say, one to twenty of them.
-fn read_negative(s: &[u8]) -> Signed
+fn read_negative(s: &[u8]) -> Option<i64>
     ensures { result ≡ negative_from (read_magnitude s.now) }
 {
-    if s.len() == 0 {
-        return Signed::Bad;
+    if s.is_empty() {
+        return None;
     }
     if 20 < s.len() {
-        return Signed::Bad;
+        return None;
     }
-    let mut acc: i64 = 0;
-    let mut i = 0;
-    while i < s.len() {
-        let Signed::Value(v) = push(acc, s[i]) else {
-            return Signed::Bad;
-        };
-        acc = v;
-        i += 1;
+    let mut acc = 0;
+    for c in s {
+        acc = push(acc, *c)?;
     }
-    Signed::Value(acc)
+    Some(acc)
 }
 
 // How many bytes the sign takes of a text that begins with this byte.
 fn sign_length(first: u8) -> usize
     ensures { result ≡ sign_length first }
 {
+    // Kept: a match with an arm for any other byte is no plainer, and a number takes two instructions more
     if first == b'-' {
         return 1;
     }
@@ -104,85 +80,62 @@ fn sign_length(first: u8) -> usize
 
 // The number that a text says, an optional plus or minus and digits, within 64 signed bits. The digits are read below 0, and without a minus the
 // sign is changed.
-pub fn read_signed(s: &[u8]) -> Signed
-    ensures { result ≡ signed_from (read_signed s.now) }
+pub fn read_signed(s: &[u8]) -> Option<i64>
+    ensures { result ≡ from_model (read_signed s.now) }
 {
-    if s.len() == 0 {
-        return Signed::Bad;
-    }
-    let first = s[0];
+    let first = *s.first()?;
     let from = sign_length(first);
-    let Signed::Value(v) = read_negative(&s[from..]) else {
-        return Signed::Bad;
-    };
+    let v = read_negative(&s[from..])?;
     if first == b'-' {
-        return Signed::Value(v);
+        return Some(v);
     }
-    if v == LEAST {
-        return Signed::Bad;
+    // Kept: `checked_neg` would hide which number has no opposite, and takes eight instructions more
+    if v == i64::MIN {
+        return None;
     }
-    Signed::Value(-v)
-}
-
-// The number without its sign.
-pub fn magnitude(z: i64) -> u64
-    ensures { result ≡ nat_abs z }
-{
-    if z < 0 {
-        // one is added before the sign changes, since minus the least number does not fit
-        let less = -(z + 1);
-        return less as u64 + 1;
-    }
-    z as u64
+    Some(-v)
 }
 
 // The natural number below `limit` that a text says.
-pub fn read_below(s: &[u8], limit: u64) -> Natural
+pub fn read_below(s: &[u8], limit: u64) -> Option<u64>
     requires { limit ≤ signed_limit }
-    ensures { result ≡ natural_from (read_below limit s.now) }
+    ensures { result ≡ from_model (read_below limit s.now) }
 {
-    let Signed::Value(z) = read_signed(s) else {
-        return Natural::Bad;
-    };
-    if z < 0 {
-        return Natural::Bad;
-    }
-    let n = magnitude(z);
+    let n = u64::try_from(read_signed(s)?).ok()?;
     if n < limit {
-        Natural::Value(n)
-    } else {
-        Natural::Bad
+        return Some(n);
     }
+    None
 }
 
 // The version that a text says, from 0 to 2^63 - 1.
-pub fn read_version(s: &[u8]) -> Natural
-    ensures { result ≡ natural_from (read_version s.now) }
+#[tactic(auto, unfolding(model::specs::Number::read_version))]
+pub fn read_version(s: &[u8]) -> Option<u64>
+    ensures { result ≡ from_model (read_version s.now) }
 {
     read_below(s, 9223372036854775808)
 }
 
 // The flags that a text says, from 0 to 2^32 - 1.
-pub fn read_flags(s: &[u8]) -> Natural
-    ensures { result ≡ natural_from (read_flags s.now) }
+#[tactic(auto, unfolding(model::specs::Number::read_flags))]
+pub fn read_flags(s: &[u8]) -> Option<u64>
+    ensures { result ≡ from_model (read_flags s.now) }
 {
     read_below(s, 4294967296)
 }
 
 // The exact sum, or the side on which it leaves 64 signed bits.
-pub fn add(a: i64, b: i64) -> Sum
+pub fn add(a: i64, b: i64) -> Result<i64, Side>
     ensures { result ≡ sum_from (a +ℤ b) }
 {
     if b < 0 {
-        if a < LEAST - b {
-            return Sum::Under;
+        if a < i64::MIN - b {
+            return Err(Side::Under);
         }
-    } else {
-        if MOST - b < a {
-            return Sum::Over;
-        }
+    } else if i64::MAX - b < a {
+        return Err(Side::Over);
     }
-    Sum::Fits(a + b)
+    Ok(a + b)
 }
 
 // How many digits a number has, and the power of ten of the first.
@@ -196,17 +149,15 @@ struct Scale {
 fn scale_of(n: u64) -> Scale
     ensures { (result.digits ≡ length (nat_text n)) × (result.power ≡ 10 ^ (result.digits - 1)) }
 {
-    let mut digits = 1;
     let mut power: u64 = 1;
-    while digits < 20 {
+    for digits in 1..20 {
         let next = power * 10;
         if n < next {
             return Scale { digits, power };
         }
         power = next;
-        digits += 1;
     }
-    Scale { digits, power }
+    Scale { digits: 20, power }
 }
 
 // How many digits the text of `n` has.
@@ -223,6 +174,7 @@ fn power_below(power: u64) -> u64
 {
     let mut below = 1;
     let mut next = 10;
+    // Kept: the loop multiplies and counts nothing
     while next < power {
         below = next;
         next *= 10;
@@ -244,6 +196,7 @@ fn take_digit(n: u64, power: u64) -> Digit
 {
     let mut byte = b'0';
     let mut rest = n;
+    // Kept: the loop takes away and counts in the digit itself, since nothing is divided
     while power <= rest {
         byte += 1;
         rest -= power;
@@ -259,6 +212,7 @@ pub fn write_natural(buf: &mut [u8], at: usize, n: u64) -> usize
     let mut power = scale_of(n).power;
     let mut place = at;
     let mut rest = n;
+    // Kept: the power itself says when to end; a `for` over the places was proved, is no plainer and takes a fifteenth more instructions
     while 1 < power {
         let digit = take_digit(rest, power);
         buf[place] = digit.byte;
@@ -275,7 +229,7 @@ pub fn write_signed(buf: &mut [u8], at: usize, z: i64) -> usize
     requires { at + length (int_text z) ≤ length buf.old }
     ensures { Wrote at (int_text z) buf.old buf.new result }
 {
-    let m = magnitude(z);
+    let m = z.unsigned_abs();
     if z < 0 {
         buf[at] = b'-';
         return write_natural(buf, at + 1, m);

@@ -7,7 +7,7 @@ use lib.ListN.{length, set}
 use Rattle.model.specs.Bytes.{crlf}
 use Rattle.slice.specs.Wrote.{Wrote}
 use Rattle.slice.proofs.Written.{written-set}
-use Rattle.slice.proofs.Writing.{room-first, room_after, wrote_then}
+use Rattle.slice.proofs.Writing.{room_after, wrote_then}
 
 module _ (at mark : ℕ) (text b : List ℕ) (fits : at + length (mark ∷ (text ++ crlf)) ≤ length b) where
   wrote-mark : Wrote at (mark ∷ []) b (set b at mark) (at + 1)
@@ -16,12 +16,6 @@ module _ (at mark : ℕ) (text b : List ℕ) (fits : at + length (mark ∷ (text
   after-mark : at + 1 + length (text ++ crlf) ≤ length (set b at mark)
   after-mark = room_after (text ++ crlf) fits wrote-mark
 
-  pub room-text : at + 1 + length text ≤ length (set b at mark)
-  room-text = room-first (at + 1) text crlf after-mark
-
   module _ {next : ℕ} {mid : List ℕ} (p : Wrote (at + 1) text (set b at mark) mid next) where
-    pub room-end : next + length crlf ≤ length mid
-    room-end = room_after crlf after-mark p
-
     pub wrote-line : {end : ℕ} {after : List ℕ} → Wrote next crlf mid after end → Wrote at (mark ∷ (text ++ crlf)) b after end
     wrote-line q = wrote_then (omega arith) wrote-mark (wrote_then (omega (arith, after-mark)) p q)

@@ -1,2 +1,0 @@
--- Laws of the sum, for this crate and those above it.
-pub mod Sums
