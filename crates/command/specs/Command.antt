@@ -1,14 +1,15 @@
 -- What a command by value means in the model.
-use Rattle.std.specs.Prelude.{ℕ, List, ℤ}
-use Rattle.std.proofs.Math.Option.{Option, none, some}
-use Rattle.model.specs.Checked.{Checked, refuse, ok}
+use Rattle.std.specs.Prelude.{ℕ, List, Result}
+use Rattle.std.proofs.Math.Option.{none, some}
+use Rattle.model.specs.Checked.{Checked, ok, ◌>>=◌}
 use Rattle.model.specs.Command as model
 use Rattle.model.specs.Command.{under}
 use Rattle.model.specs.Parse.{word_at, parse_subcommands}
+use Rattle.outcome.specs.Outcome.{to_model, checked}
+use Rattle.outcome.specs.declared.Refusal.{Refusal}
 use Rattle.command.specs.declared.Presence.{Presence}
 use Rattle.command.specs.declared.Change.{Change}
 use Rattle.command.specs.declared.Expire.{Expire}
-use Rattle.command.specs.declared.Bound.{Bound}
 use Rattle.command.specs.declared.End.{End}
 use Rattle.command.specs.declared.Terms.{Terms}
 use Rattle.command.specs.declared.Set.{Set}
@@ -16,7 +17,6 @@ use Rattle.command.specs.declared.Increment.{Increment}
 use Rattle.command.specs.declared.Join.{Join}
 use Rattle.command.specs.declared.Action.{Action}
 use Rattle.command.specs.declared.Task.{Task}
-use Rattle.command.specs.declared.Parsed.{Parsed}
 
 abbrev pub model_presence : Presence → model.Presence
 model_presence Presence.Always = model.always
@@ -33,10 +33,6 @@ model_expire Expire.Clear = model.clear
 model_expire Expire.Keep = model.keep
 model_expire (Expire.At n) = model.at n
 
-abbrev pub model_bound : Bound → Option ℤ
-model_bound Bound.Open = none
-model_bound (Bound.At z) = some z
-
 abbrev pub model_end : End → model.End
 model_end End.Back = model.back
 model_end End.Front = model.front
@@ -52,8 +48,8 @@ abbrev pub model_increment : Increment → model.Increment
 model_increment a = record {
   by = a.by;
   terms = model_terms a.terms;
-  min = model_bound a.min;
-  max = model_bound a.max;
+  min = to_model a.min;
+  max = to_model a.max;
   non_negative = a.non_negative;
   with_version = a.with_version;
 }
@@ -83,7 +79,6 @@ abbrev pub checked_task : List (List ℕ) → Task → Checked model.Command
 checked_task ws (Task.Action a) = ok (model_command ws a)
 checked_task ws Task.Bitfield = parse_subcommands ws
 
--- what is answered for the words ws: what they ask for, or document 01's number of the refusal
-abbrev pub checked_parsed : List (List ℕ) → Parsed → Checked model.Command
-checked_parsed ws (Parsed.Task t) = checked_task ws t
-checked_parsed ws (Parsed.Refused n) = refuse n
+-- what is answered for the words ws: what they ask for, or the refusal
+abbrev pub checked_parsed : List (List ℕ) → Result Task Refusal → Checked model.Command
+checked_parsed ws r = checked (λ t. t) r >>= checked_task ws

@@ -1,16 +1,16 @@
 -- The rule of a command by value, as the model has it.
-use Rattle.std.specs.Prelude.{ℕ, ◌/◌, ◌%◌, ◌^◌, Bool, cond, List, [], ◌∷◌, eqb}
-use Rattle.std.proofs.Math.Option.{Option, none, some}
+use Rattle.std.specs.Prelude.{ℕ, ◌/◌, ◌%◌, ◌^◌, Bool, cond, List, [], ◌∷◌, eqb, Option, Some, None}
+use Rattle.std.proofs.Math.Option as model_option
 use Rattle.model.specs.Command as model
 use Rattle.model.specs.Command.{Kind, kind_no}
-use Rattle.command.specs.declared.Number.{Number}
+use Rattle.command.specs.declared.NumberKind.{NumberKind}
 use Rattle.command.specs.declared.Rule.{Rule}
 
 -- what number the last fixed word is
-abbrev pub model_number : Number → Option model.Number
-model_number Number.Absent = none
-model_number Number.Signed = some model.signed
-model_number Number.Version = some model.natural
+abbrev pub model_number : Option NumberKind → model_option.Option model.Number
+model_number None = model_option.none
+model_number (Some NumberKind.Signed) = model_option.some model.signed
+model_number (Some NumberKind.Version) = model_option.some model.natural
 
 -- the kinds of options, by their numbers
 abbrev pub all_kinds : List Kind

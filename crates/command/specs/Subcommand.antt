@@ -1,5 +1,5 @@
 -- What subcommands by value mean in the model.
-use Rattle.std.specs.Prelude.{ℕ, zero, suc, List, [], ◌∷◌, get_or, ℤ}
+use Rattle.std.specs.Prelude.{List, ℤ, map, take}
 use Rattle.model.specs.Field as field
 use Rattle.model.specs.Overflow as overflow
 use Rattle.model.specs.Bitfield as bitfield
@@ -29,15 +29,6 @@ model_operation (Operation.Incrby m) f z = bitfield.incrby f (model_mode m) z
 abbrev pub model_sub : Sub → bitfield.Sub
 model_sub s = model_operation s.operation (model_field s.field) s.number
 
--- the four places
-abbrev pub places : Subs → List Sub
-places s = s.first ∷ s.second ∷ s.third ∷ s.fourth ∷ []
-
--- n subcommands from place i on; past the fourth place the fourth stands again, so that there are always n
-abbrev pub subs_from : Subs → (i n : ℕ) → List bitfield.Sub
-subs_from s i zero = []
-subs_from s i (suc n) = model_sub (get_or (places s) i s.fourth) ∷ subs_from s (suc i) n
-
 -- the subcommands of a command
 unfoldable pub model_subs : Subs → List bitfield.Sub
-model_subs s = subs_from s 0 s.count
+model_subs s = map model_sub (take s.count s.list)

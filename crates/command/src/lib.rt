@@ -35,13 +35,6 @@ pub enum Expire {
     At(u64),
 }
 
-// MIN or MAX.
-#[derive(Clone, Copy)]
-pub enum Bound {
-    Open,
-    At(i64),
-}
-
 // The end of the stored value where EXAPPEND and EXPREPEND put their text.
 #[derive(Clone, Copy)]
 pub enum End {
@@ -73,8 +66,8 @@ pub struct Increment {
     pub with_version: bool,
     pub non_negative: bool,
     pub by: i64,
-    pub min: Bound,
-    pub max: Bound,
+    pub min: Option<i64>,
+    pub max: Option<i64>,
 }
 
 // EXAPPEND and EXPREPEND: where the text goes, and on what terms.
@@ -114,13 +107,6 @@ pub enum Task {
     Bitfield,
 }
 
-// What a command asks for, or document 01's number of the refusal, 5 to 11.
-#[derive(Clone, Copy)]
-pub enum Parsed {
-    Task(Task),
-    Refused(u32),
-}
-
 // ---- names and option words
 
 // The names of the commands with options.
@@ -138,12 +124,11 @@ pub enum Name {
     Del,
 }
 
-// The command that a word names, if any: one with options, or BITFIELD, which has subcommands.
+// The command that a word names: one with options, or BITFIELD, which has subcommands.
 #[derive(Clone, Copy)]
 pub enum Named {
     Known(Name),
     Bitfield,
-    Unknown,
 }
 
 // The names of subcommands.
@@ -153,20 +138,6 @@ pub enum SubName {
     Set,
     Incrby,
     Overflow,
-}
-
-// The subcommand that a word names, if any.
-#[derive(Clone, Copy)]
-pub enum SubNamed {
-    Known(SubName),
-    Unknown,
-}
-
-// The mode that a word names, if any.
-#[derive(Clone, Copy)]
-pub enum ModeNamed {
-    Known(Mode),
-    Unknown,
 }
 
 // Options that hold no choice.
@@ -190,37 +161,29 @@ pub enum Opt {
     Plain(Plain),
 }
 
-// The option that a word spells, if any.
-#[derive(Clone, Copy)]
-pub enum Spelled {
-    Known(Opt),
-    Unknown,
-}
-
 // ---- the rule of a command
 
-// What number the last fixed word is.
+// What number a fixed word is.
 #[derive(Clone, Copy)]
-pub enum Number {
-    Absent,
+pub enum NumberKind {
     Signed,
     Version,
 }
 
-// The fixed words, the name counted; whether more are refused; whether the third is a value; what number the last fixed word is; the kinds of
-// options, one bit for each; whether a time word is needed; whether the expiry is kept where no option says.
+// The fixed words, the name counted; whether more are refused; whether the third is a value; what number the last fixed word is, if any; the kinds
+// of options, one bit for each; whether a time word is needed; whether the expiry is kept where no option says.
 #[derive(Clone, Copy)]
 pub struct Rule {
     pub fixed: usize,
     pub exact: bool,
     pub valued: bool,
-    pub number: Number,
+    pub number: Option<NumberKind>,
     pub kinds: u16,
     pub timed: bool,
     pub keeps: bool,
 }
 
-// The kinds of options, as bits: bit n is that of the model's kind n.
+// The kinds of options, as bits: bit n is that of the model's kind n. A rule is copied at each command, and a set of bits is tested by one shift.
 const TIME: u16 = 1;
 
 const KEEP_TTL: u16 = 2;
@@ -247,7 +210,7 @@ const EXSET: Rule = Rule {
     fixed: 3,
     exact: false,
     valued: true,
-    number: Number::Absent,
+    number: None,
     kinds: TIME | PRESENCE | VERSION | FLAGS | WITH_VERSION,
     timed: false,
     keeps: false,
@@ -257,7 +220,7 @@ const EXGET: Rule = Rule {
     fixed: 2,
     exact: false,
     valued: false,
-    number: Number::Absent,
+    number: None,
     kinds: WITH_FLAGS,
     timed: false,
     keeps: false,
@@ -268,7 +231,7 @@ const VERSIONED: Rule = Rule {
     fixed: 3,
     exact: true,
     valued: false,
-    number: Number::Version,
+    number: Some(NumberKind::Version),
     kinds: 0,
     timed: false,
     keeps: false,
@@ -278,7 +241,7 @@ const EXINCRBY: Rule = Rule {
     fixed: 3,
     exact: false,
     valued: false,
-    number: Number::Signed,
+    number: Some(NumberKind::Signed),
     kinds: TIME | PRESENCE | VERSION | MIN | MAX | NON_NEGATIVE | WITH_VERSION,
     timed: false,
     keeps: true,
@@ -288,7 +251,7 @@ const EXCAS: Rule = Rule {
     fixed: 4,
     exact: false,
     valued: true,
-    number: Number::Version,
+    number: Some(NumberKind::Version),
     kinds: TIME | KEEP_TTL,
     timed: false,
     keeps: false,
@@ -299,7 +262,7 @@ const JOINED: Rule = Rule {
     fixed: 3,
     exact: false,
     valued: true,
-    number: Number::Absent,
+    number: None,
     kinds: PRESENCE | VERSION,
     timed: false,
     keeps: true,
@@ -309,7 +272,7 @@ const EXGAE: Rule = Rule {
     fixed: 2,
     exact: false,
     valued: false,
-    number: Number::Absent,
+    number: None,
     kinds: TIME,
     timed: true,
     keeps: false,
@@ -319,7 +282,7 @@ const DEL: Rule = Rule {
     fixed: 2,
     exact: true,
     valued: false,
-    number: Number::Absent,
+    number: None,
     kinds: 0,
     timed: false,
     keeps: false,
@@ -329,7 +292,7 @@ const BITFIELD: Rule = Rule {
     fixed: 2,
     exact: false,
     valued: false,
-    number: Number::Absent,
+    number: None,
     kinds: 0,
     timed: false,
     keeps: true,
@@ -349,12 +312,10 @@ pub fn rule_of(name: Name) -> Rule
     match name {
         Name::Exset => EXSET,
         Name::Exget => EXGET,
-        Name::Exsetver => VERSIONED,
+        Name::Exsetver | Name::Excad => VERSIONED,
         Name::Exincrby => EXINCRBY,
         Name::Excas => EXCAS,
-        Name::Excad => VERSIONED,
-        Name::Exappend => JOINED,
-        Name::Exprepend => JOINED,
+        Name::Exappend | Name::Exprepend => JOINED,
         Name::Exgae => EXGAE,
         Name::Del => DEL,
     }

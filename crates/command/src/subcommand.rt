@@ -1,10 +1,13 @@
 // The subcommands of BITFIELD by value.
+ghost use Rattle.std.specs.Prelude.{◌≡◌, ◌≤◌, true};
+ghost use Rattle.model.specs.Field.{is_int_type};
 
-// The type of a field: signed or not, and its width in bits.
+// The type of a field: signed or not, and its width in bits, i1 to i64 and u1 to u63.
 #[derive(Clone, Copy)]
 pub struct IntType {
     pub signed: bool,
     pub width: u8,
+    pub ghost known: { is_int_type (record { signed = signed; width = width }) ≡ true },
 }
 
 // A field: its type and its first bit.
@@ -31,6 +34,7 @@ pub enum Operation {
 }
 
 // A subcommand with its number, which is 0 for GET.
+// Kept: an operation is known by its name alone, before its words are read; with the number in it a second enum would stand for the name.
 #[derive(Clone, Copy)]
 pub struct Sub {
     pub operation: Operation,
@@ -38,13 +42,11 @@ pub struct Sub {
     pub number: i64,
 }
 
-// The subcommands of a command, at most four, since one has three words or more. They are not an array, since an enum cannot
-// hold one.
+// The subcommands of a command: the first `count` of the list, at most four, since one has three words or more.
+// Kept: an array with a count, since the library has no heap for a Vec.
 #[derive(Clone, Copy)]
 pub struct Subs {
+    pub list: [Sub; 4],
     pub count: usize,
-    pub first: Sub,
-    pub second: Sub,
-    pub third: Sub,
-    pub fourth: Sub,
+    pub ghost few: { count ≤ 4 },
 }

@@ -2,12 +2,13 @@
 use Prim.Native.Nat.{ℕ, suc, ◌+◌, ◌≤◌, ◌<◌}
 use native.Mathlib.Numerals.{add-one}
 use native.Mathlib.Omega.{arith}
-use mathlib.Core.Path.{◌≡◌, refl, sym, ap, ◌∙◌, subst}
+use mathlib.Core.Path.{◌≡◌, refl, sym, ap, ◌∙◌}
 use mathlib.Core.Bool.{Bool, true, false, cond, ◌&&◌, not}
 use mathlib.Core.List.{List, [], ◌∷◌}
 use mathlib.Core.Option.{Option, none, some}
-use lib.ListN.{length, drop, set, drop_of_length-le, get_or-eq_default}
+use lib.ListN.{length, drop, set, drop_of_length-le}
 use lib.Seq.{drop-cons}
+use Rattle.std.specs.Prelude.{Ok, Err, Some, None, is_some}
 use Rattle.model.specs.Bytes.{uppers}
 use Rattle.model.specs.Checked.{refuse, ok, given}
 use Rattle.model.specs.Optional.{◌>>=◌, only}
@@ -15,23 +16,26 @@ use Rattle.model.specs.Command as model
 use Rattle.model.specs.Command.{Rule, kind_no, opt_rule_of, look, options}
 use Rattle.model.specs.Options.{Given as ModelGiven, takes, has, admits, read_options, enough, options_in}
 use Rattle.model.specs.Parse.{word_at}
+use Rattle.outcome.proofs.Cases.{clash}
+use Rattle.outcome.specs.Outcome.{number_of}
+use Rattle.outcome.specs.declared.Refusal.{Refusal}
 use Rattle.command.specs.Words.{model_opt}
 use Rattle.command.specs.declared.Opt.{Opt}
 use Rattle.options.specs.Options.{option_of, group_at, group_of, Tied, Takes, Collects}
-use Rattle.options.specs.declared.Given.{Given}
 use Rattle.options.specs.declared.Options.{Options}
-use Rattle.options.specs.declared.Taken.TheVariants as Taken
+use Rattle.options.specs.declared.Taken.{Taken}
 use Rattle.options.proofs.Groups.{has-group, tied-put}
 
 -- ---- a step that may refuse
 
+-- a refusal where a step gives something or refuses by n: it gives nothing, and the refusal is n
 module _ {A : Type 0} (n : ℕ) where
-  pub given-none : (o : Option A) → refuse n ≡ given n o → o ≡ none
-  given-none none e = refl
-  given-none (some a) e = let z : ◌≡◌ {A = ℕ} 0 1 = cc in absurd (omega arith)
+  pub given-none : (o : Option A) {k : ℕ} → refuse k ≡ given n o → (o ≡ none) × (k ≡ n)
+  given-none none e = (refl, cc)
+  given-none (some a) e = clash cc
 
   pub given-some : (o : Option A) {a : A} → ok a ≡ given n o → o ≡ some a
-  given-some none e = let z : ◌≡◌ {A = ℕ} 0 1 = cc in absurd (omega arith)
+  given-some none e = clash cc
   given-some (some b) e = cc
 
 -- ---- one option
@@ -60,11 +64,13 @@ module _ (r : Rule) (gs : List ModelGiven) (w : List ℕ) (ws : List (List ℕ))
 
 -- the words from i on
 module _ (r : Rule) (ws : List (List ℕ)) (i : ℕ) (h : i < length ws) where
-  pub taken-unknown : look (uppers (word_at i ws)) options ≡ none → Takes r ws i Taken.Wrong
-  taken-unknown e = record {
-    model = λ gs. sym (ap (read_options r gs none) (drop-cons ws i [] h) ∙ spelled r gs (word_at i ws) (drop (suc i) ws) e);
-    moves = tt;
-  }
+  pub taken-unknown : {x : Refusal} → refuse (number_of x) ≡ given 8 (look (uppers (word_at i ws)) options) → Takes r ws i (Err x)
+  taken-unknown e =
+      let n = given-none 8 (look (uppers (word_at i ws)) options) e in
+      record {
+        model = λ gs. sym (ap (read_options r gs none) (drop-cons ws i [] h) ∙ spelled r gs (word_at i ws) (drop (suc i) ws) n.0);
+        moves = n.1;
+      }
 
   module _ (x : Opt) (e : look (uppers (word_at i ws)) options ≡ some (model_opt x)) where
     abbrev rest : List (List ℕ)
@@ -84,36 +90,35 @@ module _ (r : Rule) (ws : List (List ℕ)) (i : ℕ) (h : i < length ws) where
         by true false = refl
         by false h = refl
 
-    pub taken-kind : takes r.kinds (opt_rule_of (model_opt x)).kind ≡ false → Takes r ws i Taken.Wrong
-    taken-kind p = record { model = λ gs. sym (comes gs p refl); moves = tt }
+    pub taken-kind : takes r.kinds (opt_rule_of (model_opt x)).kind ≡ false → Takes r ws i (Err Refusal.Syntax)
+    taken-kind p = record { model = λ gs. sym (comes gs p refl); moves = refl }
 
     module _ (p : takes r.kinds (opt_rule_of (model_opt x)).kind ≡ true) where
       -- an option with no number has none of the words
-      pub taken-plain : length ws ≤ 16 → (opt_rule_of (model_opt x)).numbered ≡ false → Takes r ws i (Taken.As (record { given = true; opt = x; word = 16 }) (i + 1))
-      taken-plain few q = record {
+      pub taken-plain : (opt_rule_of (model_opt x)).numbered ≡ false → Takes r ws i (Ok (record { given = record { opt = x; word = None }; next = i + 1 }))
+      taken-plain q = record {
         model = λ gs. sym (comes gs p q ∙ ap (λ (y : Option (List ModelGiven)). cond (has (opt_rule_of (model_opt x)).group gs) none y)
-            (plain_word r gs (word_at i ws) rest (model_opt x)
-            ∙ ap (λ (w : List ℕ). read_options r (record { opt = model_opt x; word = w } ∷ gs) none rest) (sym (get_or-eq_default ws [] few))));
-        moves = (refl, omega arith);
+            (plain_word r gs (word_at i ws) rest (model_opt x)));
+        moves = omega arith;
       }
 
       module _ (q : (opt_rule_of (model_opt x)).numbered ≡ true) where
-        pub taken-short : length ws ≤ i + 1 → Takes r ws i Taken.Wrong
+        pub taken-short : length ws ≤ i + 1 → Takes r ws i (Err Refusal.Syntax)
         taken-short s = record {
           model = λ gs. sym (comes gs p q ∙ (ap (λ (y : Option (List ModelGiven)). cond (has (opt_rule_of (model_opt x)).group gs) none y)
               (no_word r gs (word_at i ws) rest (model_opt x) (drop_of_length-le ws {i = i + 1} s)) ∙ same (has (opt_rule_of (model_opt x)).group gs)));
-          moves = tt;
+          moves = refl;
         }
           where
             same : (b : Bool) → ◌≡◌ {A = Option (List ModelGiven)} (cond b none none) none
             same true = refl
             same false = refl
 
-        pub taken-numbered : i + 1 < length ws → Takes r ws i (Taken.As (record { given = true; opt = x; word = i + 1 }) (i + 1 + 1))
+        pub taken-numbered : i + 1 < length ws → Takes r ws i (Ok (record { given = record { opt = x; word = Some (i + 1) }; next = i + 1 + 1 }))
         taken-numbered s = record {
           model = λ gs. sym (comes gs p q ∙ ap (λ (y : Option (List ModelGiven)). cond (has (opt_rule_of (model_opt x)).group gs) none y)
               (number_word r gs (word_at i ws) rest (model_opt x) (word_at (i + 1) ws) (drop (i + 1 + 1) ws) (drop-cons ws (i + 1) [] s ∙ rw (add-one (i + 1)))));
-          moves = (refl, omega arith);
+          moves = omega arith;
         }
 
 -- ---- the options in turn
@@ -125,29 +130,21 @@ pub record Reached (r : Rule) (ws : List (List ℕ)) (i : ℕ) (o : Options) : T
   pub whole : read_options r [] none (drop r.fixed ws) ≡ read_options r given none (drop i ws)
 
 module _ {r : Rule} {ws : List (List ℕ)} {i : ℕ} {o : Options} (b : Reached r ws i o) where
-  -- what the reading answers where the words come to x
-  answers : {x : Option (List ModelGiven)} (n : ℕ) → read_options r b.given none (drop i ws) ≡ x
-      → Collects ws (only (enough r) x) (record { number = n; options = o })
-      → Collects ws (options_in r (drop r.fixed ws)) (record { number = n; options = o })
-  answers n e = subst (λ (x : Option (List ModelGiven)). Collects ws (only (enough r) x) (record { number = n; options = o })) (sym (b.whole ∙ e))
+  -- what the words come to is what the whole comes to
+  told : {x : Option (List ModelGiven)} → read_options r b.given none (drop i ws) ≡ x → options_in r (drop r.fixed ws) ≡ only (enough r) x
+  told e = ap (only (enough r)) (b.whole ∙ e)
 
-  pub reads-wrong : Takes r ws i Taken.Wrong → Collects ws (options_in r (drop r.fixed ws)) (record { number = 8; options = o })
-  reads-wrong t = answers 8 (sym (t.model b.given)) refl
-
-  module _ {g : Given} {n : ℕ} (t : Takes r ws i (Taken.As g n)) where
-    comes-to : {h : Bool} → (group_at o (group_of g)).given ≡ h
-        → read_options r b.given none (drop i ws) ≡ cond h none (read_options r (option_of ws g ∷ b.given) none (drop n ws))
+  module _ {t : Taken} (k : Takes r ws i (Ok t)) where
+    comes-to : {h : Bool} → is_some (group_at o (group_of t.given)) ≡ h
+        → read_options r b.given none (drop i ws) ≡ cond h none (read_options r (option_of ws t.given ∷ b.given) none (drop t.next ws))
     comes-to e =
-        sym (t.model b.given)
-        ∙ ap (λ (h : Bool). cond h none (read_options r (option_of ws g ∷ b.given) none (drop n ws))) (sym (has-group b.tied (group_of g)) ∙ e)
+        sym (k.model b.given)
+        ∙ ap (λ (h : Bool). cond h none (read_options r (option_of ws t.given ∷ b.given) none (drop t.next ws))) (sym (has-group b.tied (group_of t.given)) ∙ e)
 
-    pub reads_held : (group_at o (group_of g)).given ≡ true → Collects ws (options_in r (drop r.fixed ws)) (record { number = 8; options = o })
-    reads_held e = answers 8 (comes-to e) refl
-
-    pub reached-next : (group_at o (group_of g)).given ≡ false → Reached r ws n (record { groups = set o.groups (kind_no (group_of g)) g })
+    pub reached-next : is_some (group_at o (group_of t.given)) ≡ false → Reached r ws t.next (record { groups = set o.groups (kind_no (group_of t.given)) (Some t.given) })
     reached-next e = record {
-      given = option_of ws g ∷ b.given;
-      tied = tied-put b.tied g t.moves.0;
+      given = option_of ws t.given ∷ b.given;
+      tied = tied-put b.tied t.given;
       whole = b.whole ∙ comes-to e;
     }
 
@@ -156,8 +153,8 @@ module _ {r : Rule} {ws : List (List ℕ)} {i : ℕ} {o : Options} (b : Reached 
     unfolding read_options
     none_left = ap (read_options r b.given none) (drop_of_length-le ws {i = i} h)
 
-    pub reads_all : enough r b.given ≡ true → Collects ws (options_in r (drop r.fixed ws)) (record { number = 0; options = o })
-    reads_all e = answers 0 none_left (rw e (refl, b.tied))
+    pub reads_all : enough r b.given ≡ true → Collects ws (options_in r (drop r.fixed ws)) (Ok o)
+    reads_all e = record { given = b.given; told = told none_left ∙ rw e; tied = b.tied }
 
-    pub reads-few : enough r b.given ≡ false → Collects ws (options_in r (drop r.fixed ws)) (record { number = 8; options = o })
-    reads-few e = answers 8 none_left (rw e refl)
+    pub reads-few : enough r b.given ≡ false → Collects ws (options_in r (drop r.fixed ws)) (Err Refusal.Syntax)
+    reads-few e = rw (told none_left, e)

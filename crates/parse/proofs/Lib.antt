@@ -1,2 +1,2 @@
--- Laws of the tests of a command in their order.
+-- The tests of a command in their order.
 pub mod Order

@@ -1,36 +1,22 @@
 // The action that the name of a command, the number among its fixed words and what its options say make.
 ghost use Rattle.std.specs.Prelude.{◌≡◌, List, ℕ};
-ghost use Rattle.model.specs.Command.{EXINCRBY, rule_of};
+ghost use Rattle.model.specs.Command.{rule_of};
 ghost use Rattle.model.specs.Parse.{action_of};
 ghost use Rattle.command.specs.Command.{model_action};
 ghost use Rattle.command.specs.Words.{model_name};
 ghost use Rattle.values.specs.Values.{model_said};
 ghost use Rattle.arguments.specs.Fixed.{model_fixed};
 
+use arguments::Fixed;
 use command::{Action, End, Increment, Join, Name, Set, Swap};
 use values::Said;
 
-// The action of EXINCRBY.
-fn increment(by: i64, said: Said) -> Action
-    ensures { (v : List ℕ) → model_action v result ≡ action_of EXINCRBY v by (model_said said) }
+// The action of a command.
+#[tactic(auto, unfolding(command::specs::Command::model_action))]
+pub fn action_of(name: Name, fixed: Fixed, said: Said) -> Action
+    ensures { (v : List ℕ) → model_action v result ≡ action_of (model_name name) v (model_fixed (rule_of (model_name name)).number fixed) (model_said said) }
 {
-    let terms = said.terms;
-    let min = said.min;
-    let max = said.max;
-    Action::Exincrby(Increment {
-        by,
-        terms,
-        min,
-        max,
-        non_negative: said.non_negative,
-        with_version: said.with_version,
-    })
-}
-
-// The action of a command with the number `by` or `version` among its fixed words.
-pub fn action_of(name: Name, by: i64, version: u64, said: Said) -> Action
-    ensures { (v : List ℕ) → model_action v result ≡ action_of (model_name name) v (model_fixed (rule_of (model_name name)).number by version) (model_said said) }
-{
+    let Fixed { by, version } = fixed;
     let terms = said.terms;
     let expire = terms.expire;
     match name {
@@ -43,7 +29,14 @@ pub fn action_of(name: Name, by: i64, version: u64, said: Said) -> Action
             with_flags: said.with_flags,
         },
         Name::Exsetver => Action::Exsetver { version },
-        Name::Exincrby => increment(by, said),
+        Name::Exincrby => Action::Exincrby(Increment {
+            by,
+            terms,
+            min: said.min,
+            max: said.max,
+            non_negative: said.non_negative,
+            with_version: said.with_version,
+        }),
         Name::Excas => Action::Excas(Swap { version, expire }),
         Name::Excad => Action::Excad { version },
         Name::Exappend => Action::Exjoin(Join {

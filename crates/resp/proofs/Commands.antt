@@ -11,7 +11,7 @@ use borrow.Author.Tests.{le-leb, lt-leb}
 use Rattle.model.specs.Optional.{◌>>=◌}
 use Rattle.model.specs.Resp.{command_limit, word_limit, array_mark, Taken, read_line, read_bulk, read_bulks, decode}
 use Rattle.resp.specs.Words.{line_from, has_words}
-use Rattle.resp.specs.declared.Line.TheVariants.{Malformed}
+use Rattle.std.specs.Prelude.{None}
 use Rattle.resp.proofs.Optional.{bind-some, is_some-some, is_some-none}
 use Rattle.resp.proofs.Lines.{LineAt, line-malformed}
 
@@ -33,7 +33,7 @@ module _ (s : List ℕ) where
   decode-long h = simp (lt-leb (length s) command_limit h)
 
   module _ (h : length s ≤ command_limit) where
-    pub decode-over : line_from array_mark s 0 ≡ Malformed → decode s ≡ none
+    pub decode-over : line_from array_mark s 0 ≡ None → decode s ≡ none
     unfolding decode
     decode-over e = simp (le-leb (length s) command_limit h) (go (read_line array_mark s) refl)
       where

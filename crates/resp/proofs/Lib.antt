@@ -4,7 +4,7 @@ pub mod Places
 pub mod Digits
 pub mod Lines
 pub mod Starts
-pub mod Words
+pub mod Bulks
 pub mod Commands
 pub mod Spans
 pub mod Vectors

@@ -8,12 +8,14 @@ use mathlib.Core.Path.{◌≡◌, refl, sym, ap, ◌∙◌, subst}
 use mathlib.Core.Bool.{Bool, true, false}
 use mathlib.Core.List.{List, [], ◌∷◌, ◌++◌, append_assoc}
 use mathlib.Core.Option.{Option, none, some}
+use Rattle.outcome.proofs.Cases.{clash}
+use Rattle.std.specs.Prelude.{Some, None}
+use Rattle.std.proofs.lemmas.Option.{same_Some}
 use lib.Dec.{eqb, leb}
 use lib.ListN.{length, take, drop, get_or, set, length-set, length-append, length-drop}
 use lib.Seq.{drop-cons, drop_at, get_or-set_same, get_or-set_other}
 use borrow.Author.Tests.{eqb-true, eqb-false}
 use Rattle.model.specs.Bytes.{part, crlf}
-use Rattle.model.specs.Checked.{Checked, ok}
 use Rattle.model.specs.Resp.{Taken, took, array_mark, bulk_mark, command_limit, line, bulk_bytes, bulks_bytes, encode, read_line, read_bulk, decode}
 use Rattle.model.specs.Parse.{word_at}
 use Rattle.model.specs.CurrentValue.{word_start}
@@ -21,12 +23,11 @@ use Rattle.model.proofs.Basics.{never, some-eq}
 use Rattle.model.proofs.Words.{encode-decode, read_line-line, read_bulk-bulk_bytes}
 use Rattle.model.proofs.Shown.{word_start-part}
 use Rattle.resp.specs.Words.{word_of, word_from, has_words}
-use Rattle.resp.specs.Spans.{words_of, bytes_of, span_at, span_in, Splits, place_of, Known, Begins, Notes, noted, WordsRead, Split, checked_count}
+use Rattle.resp.specs.Spans.{words_of, bytes_of, span_at, span_in, Splits, place_of, Known, Begins, Notes, noted, WordsRead, Counted}
 use Rattle.resp.specs.declared.Span.{Span}
 use Rattle.resp.specs.declared.Word.{Word}
-use Rattle.resp.specs.declared.Count.{Count}
 use Rattle.resp.proofs.Lines.{LineAt}
-use Rattle.resp.proofs.Words.{word-at, words-next, words-malformed, words-end}
+use Rattle.resp.proofs.Bulks.{word-at, words-next, words-malformed, words-end}
 
 split : (i : ℕ) (ws : List (List ℕ)) → bulks_bytes (take i ws) ++ bulks_bytes (drop i ws) ≡ bulks_bytes ws
 split zero [] = refl
@@ -90,7 +91,7 @@ module _ (s : List ℕ) (ws : List (List ℕ)) (e : decode s ≡ some ws) where
     pub word-ends : word_start i ws + length (word_at i ws) + 2 ≤ length s
     word-ends = omega (arith, next_place, left-length (suc i) ws, ap length is-encoded)
 
-    pub word_read : word_from s (place_of i ws) ≡ Word.At (word_start i ws) (word_start i ws + length (word_at i ws)) (place_of (suc i) ws)
+    pub word_read : word_from s (place_of i ws) ≡ Some (record { start = word_start i ws; end = word_start i ws + length (word_at i ws); next = place_of (suc i) ws })
     unfolding word_from
     word_read =
         let rest = bulks_bytes (drop (suc i) ws) in
@@ -123,19 +124,18 @@ module _ (s : List ℕ) (ws : List (List ℕ)) (e : decode s ≡ some ws) where
 -- ---- a word that was read
 
 module _ (s : List ℕ) (ws : List (List ℕ)) (e : decode s ≡ some ws) (i place : ℕ) (h : i < length ws) (p : place ≡ place_of i ws) where
-  read-there : word_from s place ≡ Word.At (word_start i ws) (word_start i ws + length (word_at i ws)) (place_of (suc i) ws)
+  read-there : word_from s place ≡ Some (record { start = word_start i ws; end = word_start i ws + length (word_at i ws); next = place_of (suc i) ws })
   read-there = ap (word_from s) p ∙ word_read s ws e i h
 
-  module _ {start end next : ℕ} (q : word_from s place ≡ Word.At start end next) where
-    pub word-span : ◌≡◌ {A = Span} (record { start = start; end = end }) (span_at i ws)
-    word-span =
-        let there = read-there in
-        let a : start ≡ word_start i ws = cc in
-        let b : end ≡ word_start i ws + length (word_at i ws) = cc in
-        λ x. record { start = a x; end = b x }
+  module _ {w : Word} (q : word_from s place ≡ Some w) where
+    there : w ≡ record { start = word_start i ws; end = word_start i ws + length (word_at i ws); next = place_of (suc i) ws }
+    there = same_Some _ _ (sym q ∙ read-there)
 
-    pub word_next : next ≡ place_of (suc i) ws
-    word_next = let there = read-there in cc
+    pub word-span : ◌≡◌ {A = Span} (record { start = w.start; end = w.end }) (span_at i ws)
+    word-span = ap {B = Span} (λ (x : Word). record { start = x.start; end = x.end }) there
+
+    pub word_next : w.next ≡ place_of (suc i) ws
+    word_next = ap (λ (x : Word). x.next) there
 
 -- ---- the array of places
 
@@ -182,44 +182,36 @@ pub record Filled (s : List ℕ) (at n : ℕ) (places : List ℕ) (place i : ℕ
   pub known : (ws : List (List ℕ)) → decode s ≡ some ws → Known places ws i
 
 module _ {s : List ℕ} {at n : ℕ} (b : Begins s at n) {places : List ℕ} {place i : ℕ} (f : Filled s at n places place i) (h : i < n) where
-  pub filled_next : {start end next : ℕ} → word_from s place ≡ Word.At start end next
-      → Filled s at n (set (set places i start) (16 + i) end) next (i + 1)
-  filled_next {start} {end} {next} q =
+  pub filled_next : {w : Word} → word_from s place ≡ Some w
+      → Filled s at n (set (set places i w.start) (16 + i) w.end) w.next (i + 1)
+  filled_next {w} q =
       let less : n - i - 1 ≡ n - (i + 1) = omega arith in
       record {
-        room = length-set (set places i start) (16 + i) end ∙ (length-set places i start ∙ f.room);
+        room = length-set (set places i w.start) (16 + i) w.end ∙ (length-set places i w.start ∙ f.room);
         most = omega arith;
-        left = f.left ∙ (words-next s place (n - i) (omega arith) (word-at s place q) ∙ ap (λ (k : ℕ). has_words k s next) less);
+        left = f.left ∙ (words-next s place (n - i) (omega arith) (word-at s place q) ∙ ap (λ (k : ℕ). has_words k s w.next) less);
         there = λ ws d. word_next s ws d i place (omega (arith, b.words ws d)) (f.there ws d) q ∙ ap (λ (k : ℕ). place_of k ws) (sym (add-one i));
         known = λ ws d.
-            known_next places ws i start end f.room (omega (arith, b.few)) (word-span s ws d i place (omega (arith, b.words ws d)) (f.there ws d) q) (f.known ws d);
+            known_next places ws i w.start w.end f.room (omega (arith, b.few)) (word-span s ws d i place (omega (arith, b.words ws d)) (f.there ws d) q) (f.known ws d);
       }
 
 -- the noting of word i
 module _ {s : List ℕ} {at n : ℕ} (b : Begins s at n) {ys : List ℕ} {place i : ℕ} (f : Filled s at n ys place i) (h : i < n) where
-  pub may-note : {w : Word} → w ≡ word_from s place → Notes w i ys
-  may-note e = record {
-    room = f.room;
-    few = omega (arith, b.few);
-    short = λ q. let a = word-at s place (sym e ∙ q) in (omega (arith, a.ordered, a.ended, a.within, b.short), omega (arith, a.ended, a.within, b.short));
-  }
+  module _ {w : Word} (q : Some w ≡ word_from s place) where
+    pub may-note : Notes w i ys
+    may-note =
+        let a = word-at s place (sym q) in
+        record {
+          room = f.room;
+          few = omega (arith, b.few);
+          short = (omega (arith, a.ordered, a.ended, a.within, b.short), omega (arith, a.ended, a.within, b.short));
+        }
 
-  module _ {zs : List ℕ} {next : ℕ} where
-    after : (w : Word) → word_from s place ≡ w → noted w i ys ≡ (zs, next) → (next ≡ 0 → ⊥) → Filled s at n zs next (i + 1)
-    after (Word.At start end m) q e h' =
-        subst (λ (r : List ℕ × ℕ). Filled s at n r.0 r.1 (i + 1)) e (filled_next b f h q)
-    after Word.Malformed q e h' = absurd (h' (sym (ap (λ (r : List ℕ × ℕ). r.1) e)))
+    pub noted-word : {zs : List ℕ} {next : ℕ} → noted w i ys ≡ (zs, next) → Filled s at n zs next (i + 1)
+    noted-word e = subst (λ (r : List ℕ × ℕ). Filled s at n r.0 r.1 (i + 1)) e (filled_next b f h (sym q))
 
-    nothing-noted : (w : Word) → word_from s place ≡ w → noted w i ys ≡ (zs, next) → next ≡ 0 → has_words n s at ≡ false
-    nothing-noted (Word.At start end m) q e z = let a = word-at s place q in absurd (omega (arith, a.ended, ap (λ (r : List ℕ × ℕ). r.1) e))
-    nothing-noted Word.Malformed q e z = f.left ∙ words-malformed s place (n - i) (omega arith) q
-
-    module _ {w : Word} (q : w ≡ word_from s place) (e : noted w i ys ≡ (zs, next)) where
-      pub noted-word : (next ≡ 0 → ⊥) → Filled s at n zs next (i + 1)
-      noted-word = after w (sym q) e
-
-      pub noted-none : next ≡ 0 → WordsRead s at n zs false
-      noted-none z = record { whole = sym (nothing-noted w (sym q) e z); known = λ t. never false t refl }
+  pub noted-none : None ≡ word_from s place → WordsRead s at n ys false
+  noted-none q = record { whole = sym (f.left ∙ words-malformed s place (n - i) (omega arith) (sym q)); known = λ t. never false t refl }
 
 -- before the first word, and after the last
 pub filled-first : {s : List ℕ} {at n : ℕ} {ys : List ℕ} → Begins s at n → length ys ≡ 32 → Filled s at n ys at 0
@@ -251,29 +243,42 @@ module _ {s places : List ℕ} (d : Splits s places) (i : ℕ) (h : i < length (
   pub few_words : i < 16
   few_words = omega (arith, word-limit d)
 
--- ---- what the splitting answers
+-- the same by the words themselves
+module _ {s places : List ℕ} {ws : List (List ℕ)} (d : Splits s places) (e : words_of s ≡ ws) (i : ℕ) (h : i < length ws) where
+  pub few-of : i < 16
+  few-of = few_words d i (omega (arith, ap length e))
+
+  pub span-of : span_in places i ≡ span_at i ws
+  span-of = d.spans i (omega (arith, ap length e)) ∙ ap (span_at i) e
+
+  module _ {w : Span} (q : w ≡ span_at i ws) where
+    pub within-of : (w.start ≤ w.end) × (w.end ≤ length s)
+    within-of =
+        subst (λ (x : Span). (x.start ≤ x.end) × (x.end ≤ length s)) (sym (q ∙ sym span-of)) (span-within d i (omega (arith, ap length e)))
+
+    pub word-of : bytes_of s w ≡ word_at i ws
+    word-of = ap (bytes_of s) (q ∙ sym span-of) ∙ (span-word d i (omega (arith, ap length e)) ∙ ap (word_at i) e)
+
+-- ---- what the counting answers
 
 pub words-of : (s : List ℕ) {ws : List (List ℕ)} → decode s ≡ some ws → words_of s ≡ ws
 unfolding words_of
 words-of s e = rw e
 
 module _ (s places : List ℕ) where
-  pub split-not : decode s ≡ none → Split s places Count.Malformed
-  split-not e = record { count = rw e; splits = λ q. let z : ◌≡◌ {A = ℕ} 0 1 = cc in absurd (omega arith) }
+  pub counted-not : decode s ≡ none → Counted s places None
+  counted-not e = record { none = λ q. e; some = λ q. clash cc }
 
-  pub split-whole : {ws : List (List ℕ)} {n : ℕ} → decode s ≡ some ws → length ws ≡ n → Known places ws n → Split s places (Count.Words n)
-  split-whole {ws} {n} e l k =
+  pub counted-whole : {ws : List (List ℕ)} {n : ℕ} → decode s ≡ some ws → length ws ≡ n → Known places ws n → Counted s places (Some n)
+  counted-whole {ws} {n} e l k =
       let is = words-of s e in
       record {
-        count = rw e (ap {B = Checked ℕ} ok (sym l));
-        splits = λ q. record {
-          decoded = e ∙ ap {B = Option (List (List ℕ))} some (sym is);
-          spans = λ i h. k i (omega (arith, ap length is)) ∙ ap (span_at i) (sym is);
-        };
+        none = λ q. clash cc;
+        some = λ q. (
+          record {
+            decoded = e ∙ ap {B = Option (List (List ℕ))} some (sym is);
+            spans = λ i h. k i (omega (arith, ap length is)) ∙ ap (span_at i) (sym is);
+          },
+          sym (same_Some _ _ q) ∙ (sym l ∙ ap length (sym is)),
+        );
       }
-
--- the number that was answered is that of the words
-pub split-count : {s places : List ℕ} {r : Count} {n : ℕ} → Split s places r → r ≡ Count.Words n → n ≡ length (words_of s)
-split-count {s} {places} {r} {n} d e =
-    let q : ◌≡◌ {A = Checked ℕ} (ok n) (ok (length (words_of s))) = ap checked_count (sym e) ∙ (d.count ∙ rw (d.splits e).decoded) in
-    cc

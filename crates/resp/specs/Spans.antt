@@ -1,20 +1,17 @@
 -- Where the words of a command stand in its bytes s, and how many there are.
-use Rattle.std.specs.Prelude.{ℕ, ◌+◌, ◌-◌, ◌^◌, ◌≤◌, ◌<◌, ◌≡◌, Bool, true, List, [], length, take, get_or, set}
-use Rattle.std.proofs.Math.Option
-use Rattle.std.proofs.Math.Option.{some}
+use Rattle.std.specs.Prelude.{ℕ, ◌+◌, ◌-◌, ◌^◌, ◌≤◌, ◌<◌, ◌≡◌, Bool, true, List, [], length, take, get_or, set, Option, Some, None}
+use Rattle.std.proofs.Math.Option as model
 use Rattle.model.specs.Bytes.{part}
-use Rattle.model.specs.Checked.{Checked, refuse, ok, given, ◌>>=◌}
 use Rattle.model.specs.Resp.{command_limit, word_limit, array_mark, line, bulks_bytes, decode}
 use Rattle.model.specs.Parse.{word_at}
 use Rattle.model.specs.CurrentValue.{word_start}
 use Rattle.resp.specs.Words.{has_words}
 use Rattle.resp.specs.declared.Span.{Span}
 use Rattle.resp.specs.declared.Word.{Word}
-use Rattle.resp.specs.declared.Count.{Count}
 
 -- the words of a command; none where the bytes are no command
 unfoldable pub words_of : List ℕ → List (List ℕ)
-words_of s = Option.get_or (decode s) []
+words_of s = model.get_or (decode s) []
 
 -- ---- spans
 
@@ -32,26 +29,13 @@ span_in places i = record { start = get_or places i 0; end = get_or places (16 +
 
 -- s is a command, and the array says for each of its words where it stands
 pub record Splits (s places : List ℕ) : Type 0 where
-  pub decoded : decode s ≡ some (words_of s)
+  pub decoded : decode s ≡ model.some (words_of s)
   pub spans : (i : ℕ) → i < length (words_of s) → span_in places i ≡ span_at i (words_of s)
 
--- ---- the number of words
-
--- the number of words of a command, or the number 4
-abbrev pub word_count : List ℕ → Checked ℕ
-word_count s = do
-  ws ← given 4 (decode s)
-  ok (length ws)
-
--- what is answered, with document 01's number
-abbrev pub checked_count : Count → Checked ℕ
-checked_count (Count.Words n) = ok n
-checked_count Count.Malformed = refuse 4
-
--- what the splitting of s answers, and the array that it leaves
-pub record Split (s places : List ℕ) (r : Count) : Type 0 where
-  pub count : checked_count r ≡ word_count s
-  pub splits : {n : ℕ} → r ≡ Count.Words n → Splits s places
+-- what the counting of the words of s answers, and the array that it leaves
+pub record Counted (s places : List ℕ) (r : Option ℕ) : Type 0 where
+  pub none : r ≡ None → decode s ≡ model.none
+  pub some : {n : ℕ} → r ≡ Some n → Splits s places × (n ≡ length (words_of s))
 
 -- ---- word by word
 
@@ -67,21 +51,20 @@ Known places ws i = (j : ℕ) → j < i → span_in places j ≡ span_at j ws
 pub record Begins (s : List ℕ) (at n : ℕ) : Type 0 where
   pub short : length s ≤ command_limit
   pub few : n ≤ word_limit
-  pub words : (ws : List (List ℕ)) → decode s ≡ some ws → n ≡ length ws
-  pub first : (ws : List (List ℕ)) → decode s ≡ some ws → at ≡ place_of 0 ws
+  pub words : (ws : List (List ℕ)) → decode s ≡ model.some ws → n ≡ length ws
+  pub first : (ws : List (List ℕ)) → decode s ≡ model.some ws → at ≡ place_of 0 ws
 
 -- a word that can be noted as word i
 pub record Notes (w : Word) (i : ℕ) (places : List ℕ) : Type 0 where
   pub room : length places ≡ 32
   pub few : i < 16
-  pub short : {start end next : ℕ} → w ≡ Word.At start end next → (start < 2 ^ 16) × (end < 2 ^ 16)
+  pub short : (w.start < 2 ^ 16) × (w.end < 2 ^ 16)
 
--- the array that the noting of a word leaves, and the place after the word, 0 where there is none
+-- the array that the noting of a word leaves, and the place after the word
 abbrev pub noted : Word → (i : ℕ) → List ℕ → List ℕ × ℕ
-noted (Word.At start end next) i places = (set (set places i start) (16 + i) end, next)
-noted Word.Malformed i places = (places, 0)
+noted w i places = (set (set places i w.start) (16 + i) w.end, w.next)
 
 -- what the reading of n words answers, and the array that it leaves
 pub record WordsRead (s : List ℕ) (at n : ℕ) (places : List ℕ) (r : Bool) : Type 0 where
   pub whole : r ≡ has_words n s at
-  pub known : r ≡ true → (ws : List (List ℕ)) → decode s ≡ some ws → Known places ws n
+  pub known : r ≡ true → (ws : List (List ℕ)) → decode s ≡ model.some ws → Known places ws n

@@ -1,35 +1,30 @@
 // The words of a command in RESP2, taken by a reader that holds the command and its place in it. No function but `read_words` holds a reader.
 #![tactic(auto)]
 
-ghost use Rattle.std.specs.Prelude.{◌≡◌, false, ◌+◌, ◌≤◌, ◌<◌, length, drop, get_or, leb};
-ghost use Rattle.model.specs.Resp.{command_limit, word_limit};
+ghost use Rattle.std.specs.Prelude.{◌≡◌, List, ℕ, false, ◌+◌, ◌≤◌, ◌<◌, length, drop, get_or, leb};
+ghost use Rattle.model.specs.Checked.{given};
+ghost use Rattle.model.specs.Resp.{command_limit, word_limit, decode};
 ghost use Rattle.model.specs.Parse.{word_at};
+ghost use Rattle.outcome.specs.Outcome.{checked};
 ghost use Rattle.resp.specs.Words.{digit_at, ends_line, line_from, word_from};
-ghost use Rattle.resp.specs.Spans.{words_of, span_in, Begins, Notes, noted, WordsRead, Splits, Split};
+ghost use Rattle.resp.specs.Spans.{words_of, span_at, Begins, Notes, noted, WordsRead, Splits, Counted};
+
+use outcome::Refusal;
+use std::marker::Model;
 
 // A line's number, and the place after the line.
 #[derive(Clone, Copy)]
-pub enum Line {
-    Number { value: usize, next: usize },
-    Malformed,
+pub struct Line {
+    pub value: usize,
+    pub next: usize,
 }
 
 // Where a word's bytes begin and end, and the place after its CR LF.
 #[derive(Clone, Copy)]
-pub enum Word {
-    At {
-        start: usize,
-        end: usize,
-        next: usize,
-    },
-    Malformed,
-}
-
-// The number of words of a whole command.
-#[derive(Clone, Copy)]
-pub enum Count {
-    Words(usize),
-    Malformed,
+pub struct Word {
+    pub start: usize,
+    pub end: usize,
+    pub next: usize,
 }
 
 // Where the bytes of a word begin and end.
@@ -46,29 +41,40 @@ pub struct Reader<'a> {
     pub at: usize,
 }
 
-// The digit at place `at`, and 10 where there is none.
-pub fn digit_at(s: &[u8], at: usize) -> usize
-    ensures { result ≡ digit_at s.now at }
-{
-    if s.len() <= at {
-        return 10;
-    }
-    let c = s[at];
-    if c < 48 {
-        return 10;
-    }
-    if 57 < c {
-        return 10;
-    }
-    (c - 48) as usize
+// The words of a command: its bytes, and where each of its words stands in them. Kept: places and their number are a buffer with a length, since the
+// library has no heap.
+#[derive(Drop)]
+pub struct Words<'a> {
+    bytes: &'a [u8],
+    places: &'a [u16; 32],
+    count: usize,
 }
 
-// Whether the two bytes at place `at` are CR LF: 13 + 256 * 10. As one number they are loaded and compared at once.
+impl<'a> Model for Words<'a> {
+    ghost Value = { List (List ℕ) };
+
+    ghost view = { λ w. words_of w.bytes.now };
+
+    ghost invariant = { λ w. Splits w.bytes.now w.places.now × (w.count ≡ length (words_of w.bytes.now)) };
+}
+
+// The digit at place `at`.
+pub fn digit_at(s: &[u8], at: usize) -> Option<usize>
+    ensures { result ≡ digit_at s.now at }
+{
+    let c = *s.get(at)?;
+    if c.is_ascii_digit() {
+        return Some((c - b'0') as usize);
+    }
+    None
+}
+
+// Whether the two bytes at place `at` are CR LF. As one number they are loaded and compared at once.
 fn is_crlf(s: &[u8], at: usize) -> bool
     requires { at + 2 ≤ length s.now }
     ensures { result ≡ ends_line (drop at s.now) }
 {
-    s[at] as u16 + 256 * (s[at + 1] as u16) == 2573
+    u16::from_le_bytes([s[at], s[at + 1]]) == u16::from_le_bytes(*b"\r\n")
 }
 
 // Whether CR LF stands at place `at`.
@@ -84,80 +90,72 @@ fn ends_line(s: &[u8], at: usize) -> bool
     is_crlf(s, at)
 }
 
-// The line at place `at` with any mark, whose number begins with the digit `first` and has more. No number up to 512 has four digits.
-fn long_line(s: &[u8], at: usize, first: usize) -> Line
-    requires { (at + 4 ≤ length s.now) × (first ≡ digit_at s.now (at + 1)) × (first ≤ 9) × (ends_line (drop (at + 2) s.now) ≡ false) }
+// The line at place `at` with any mark, whose number has more than one digit. No number up to 512 has four.
+fn long_line(s: &[u8], at: usize) -> Option<Line>
+    requires { (at + 4 ≤ length s.now) × (ends_line (drop (at + 2) s.now) ≡ false) }
     ensures { result ≡ line_from (get_or s.now at 0) s.now at }
 {
+    let first = digit_at(s, at + 1)?;
     if first == 0 {
-        return Line::Malformed;
+        return None;
     }
-    let second = digit_at(s, at + 2);
-    if 9 < second {
-        return Line::Malformed;
-    }
+    let second = digit_at(s, at + 2)?;
     let mut value = 10 * first + second;
     let mut next = at + 3;
-    let third = digit_at(s, next);
-    if third < 10 {
+    if let Some(third) = digit_at(s, next) {
         value = 10 * value + third;
         if 512 < value {
-            return Line::Malformed;
+            return None;
         }
         next += 1;
     }
     if ends_line(s, next) {
-        return Line::Number {
+        return Some(Line {
             value,
             next: next + 2,
-        };
+        });
     }
-    Line::Malformed
+    None
 }
 
 // The line with mark `mark` at place `at`: its number, up to 512, and the place after it. No line has fewer than 4 bytes, and most have 4.
-pub fn read_line(s: &[u8], at: usize, mark: u8) -> Line
+pub fn read_line(s: &[u8], at: usize, mark: u8) -> Option<Line>
     ensures { result ≡ line_from mark s.now at }
 {
     if s.len() < 4 {
-        return Line::Malformed;
+        return None;
     }
     if s.len() - 4 < at {
-        return Line::Malformed;
+        return None;
     }
     if s[at] != mark {
-        return Line::Malformed;
+        return None;
     }
-    let first = digit_at(s, at + 1);
-    if 9 < first {
-        return Line::Malformed;
+    if !is_crlf(s, at + 2) {
+        return long_line(s, at);
     }
-    if is_crlf(s, at + 2) {
-        return Line::Number {
-            value: first,
-            next: at + 4,
-        };
-    }
-    long_line(s, at, first)
+    let value = digit_at(s, at + 1)?;
+    Some(Line {
+        value,
+        next: at + 4,
+    })
 }
 
 // The bulk string at place `at`: where its bytes begin and end, and the place after it.
-pub fn read_bulk(s: &[u8], at: usize) -> Word
+pub fn read_bulk(s: &[u8], at: usize) -> Option<Word>
     requires { length s.now ≤ command_limit }
     ensures { result ≡ word_from s.now at }
 {
-    let Line::Number { value, next } = read_line(s, at, b'$') else {
-        return Word::Malformed;
-    };
-    let end = next + value;
+    let line = read_line(s, at, b'$')?;
+    let end = line.next + line.value;
     if ends_line(s, end) {
-        return Word::At {
-            start: next,
+        return Some(Word {
+            start: line.next,
             end,
             next: end + 2,
-        };
+        });
     }
-    Word::Malformed
+    None
 }
 
 // Whether no byte stands at place `at`, nor after it.
@@ -169,7 +167,7 @@ fn is_end(s: &[u8], at: usize) -> bool
 
 impl<'a> Reader<'a> {
     // The word at the reader's place.
-    pub fn next_word(self) -> Word
+    pub fn next_word(self) -> Option<Word>
         requires { length self.command.now ≤ command_limit }
         ensures { result ≡ word_from self.entry.command.now self.entry.at }
     {
@@ -177,17 +175,14 @@ impl<'a> Reader<'a> {
     }
 }
 
-// Writes into `places` where word `i` begins and ends: the place after it, and 0 where there is no word.
+// Writes into `places` where word `i` begins and ends: the place after it.
 fn note(word: Word, i: usize, places: &mut [u16; 32]) -> usize
     requires { Notes word i places.old }
     ensures { noted word i places.old ≡ (places.new, result) }
 {
-    let Word::At { start, end, next } = word else {
-        return 0;
-    };
-    places[i] = start as u16;
-    places[16 + i] = end as u16;
-    next
+    places[i] = word.start as u16;
+    places[16 + i] = word.end as u16;
+    word.next
 }
 
 // Reads `n` bulk strings from place `at` on into `places`, where word i begins at i and where it ends at 16 + i: whether they stand there, and
@@ -197,70 +192,80 @@ fn read_words(s: &[u8], at: usize, n: usize, places: &mut [u16; 32]) -> bool
     ensures { WordsRead s.now at n places.new result }
 {
     let mut reader = Reader { command: s, at };
-    let mut i = 0;
-    while i < n {
-        let next = note(reader.next_word(), i, places);
-        if next == 0 {
+    for i in 0..n {
+        let Some(word) = reader.next_word() else {
             return false;
-        }
-        reader.at = next;
-        i += 1;
+        };
+        reader.at = note(word, i, places);
     }
     is_end(s, reader.at)
 }
 
 // The number of words of a whole command, with nothing after the last; `places` says where they stand.
-pub fn split(s: &[u8], places: &mut [u16; 32]) -> Count
+fn count_words(s: &[u8], places: &mut [u16; 32]) -> Option<usize>
     requires { length places.old ≡ 32 }
-    ensures { Split s.now places.new result }
+    ensures { Counted s.now places.new result }
 {
     if 512 < s.len() {
-        return Count::Malformed;
+        return None;
     }
-    let Line::Number { value, next } = read_line(s, 0, b'*') else {
-        return Count::Malformed;
-    };
+    let Line { value, next } = read_line(s, 0, b'*')?;
     if value < 1 {
-        return Count::Malformed;
+        return None;
     }
     if 16 < value {
-        return Count::Malformed;
+        return None;
     }
     if read_words(s, next, value, places) {
-        return Count::Words(value);
+        return Some(value);
     }
-    Count::Malformed
+    None
 }
 
-// Where word `i` of a command stands.
-pub fn span_at(places: &[u16; 32], i: usize) -> Span
-    requires { i < word_limit }
-    ensures { result ≡ span_in places.now i }
+// The words of a whole command, with nothing after the last; `places` is to hold where they stand.
+pub fn split<'a>(s: &'a [u8], places: &'a mut [u16; 32]) -> Result<Words<'a>, Refusal>
+    requires { length places.old ≡ 32 }
+    ensures { checked (λ ws. ws) result ≡ given 4 (decode s.now) }
 {
-    Span {
-        start: places[i],
-        end: places[16 + i],
-    }
+    let Some(count) = count_words(s, places) else {
+        return Err(Refusal::Malformed);
+    };
+    Ok(Words {
+        bytes: s,
+        places,
+        count,
+    })
 }
 
-// Word `i` of a command.
-pub fn word_at<'a>(s: &'a [u8], places: &[u16; 32], i: usize) -> &'a [u8]
-    requires { Splits s.now places.now × (i < length (words_of s.now)) }
-    ensures { result.now ≡ word_at i (words_of s.now) }
-{
-    let w = span_at(places, i);
-    let start = w.start as usize;
-    let end = w.end as usize;
-    &s[start..end]
-}
-
-// Word `i` of a command of `count` words, and the empty part where there is none.
-pub fn word_or_empty<'a>(s: &'a [u8], places: &[u16; 32], count: usize, i: usize) -> &'a [u8]
-    requires { Splits s.now places.now × (count ≡ length (words_of s.now)) }
-    ensures { result.now ≡ word_at i (words_of s.now) }
-{
-    if i < count {
-        return word_at(s, places, i);
+impl<'a> Words<'a> {
+    // How many there are.
+    pub fn len(&self) -> usize
+        ensures value { result ≡ length self.now }
+        ensures few { result ≤ word_limit }
+    {
+        self.count
     }
-    &s[0..0]
+
+    // Where word `i` stands in the command.
+    pub fn span(&self, i: usize) -> Span
+        requires { i < word_limit }
+        ensures { i < length self.now → result ≡ span_at i self.now }
+    {
+        let places = self.places;
+        Span {
+            start: places[i],
+            end: places[16 + i],
+        }
+    }
+
+    // Word `i`, and the empty part where there is none.
+    pub fn word(&self, i: usize) -> &'a [u8]
+        ensures { result.now ≡ word_at i self.now }
+    {
+        if i < self.count {
+            let w = self.span(i);
+            return &self.bytes[w.start as usize..w.end as usize];
+        }
+        &self.bytes[0..0]
+    }
 }

@@ -1,44 +1,23 @@
 -- Offsets: an offset's word by its first byte, and the number in it.
-use Prim.Native.Nat.{ℕ, ◌+◌, ◌*◌, ◌<◌}
+use Prim.Native.Nat.{ℕ, ◌+◌, ◌*◌}
 use native.Mathlib.Omega.{arith}
-use mathlib.Core.Path.{◌≡◌, refl, sym, ap, ◌∙◌}
+use mathlib.Core.Path.{◌≡◌, refl, ap, ◌∙◌}
 use mathlib.Core.Bool.{Bool, true, false, cond}
 use mathlib.Core.List.{List, [], ◌∷◌}
 use mathlib.Core.Option.{Option, none, some, map}
-use lib.Dec.{ltb, eqb}
+use lib.Dec.{eqb}
 use lib.ListN.{length, drop, get_or}
-use borrow.Author.Tests.{ltb-true, ne_eqb, eqb-true}
-use Rattle.model.specs.Optional.{◌>>=◌}
-use Rattle.model.specs.Number.{nat_text, read_int, natural, read_below}
+use borrow.Author.Tests.{ne_eqb, eqb-true}
+use Rattle.model.specs.Number.{nat_text, read_below}
 use Rattle.model.specs.Field.{IntType}
 use Rattle.model.specs.Subcommands.{offset_limit, offset_in}
-use Rattle.model.proofs.Basics.{only-some}
 use Rattle.model.proofs.Numbers.{nat_text-read_nat}
 use Rattle.model.proofs.NumberWords.{read_below-nat_text}
-use Rattle.number.specs.Answer.{natural_from}
-use Rattle.number.specs.declared.Natural.{Natural}
-use Rattle.number.specs.declared.Natural.TheVariants.{Value, Bad}
+use Rattle.std.specs.Prelude.{Some, None}
 use Rattle.resp.specs.Words.{digit_at}
 use Rattle.resp.proofs.Digits.{digit-of}
 use Rattle.subcommands.specs.Words.{only_digit}
 use Rattle.subcommands.proofs.Widths.{one-digit}
-
--- ---- the number
-
-abbrev pub said_by : Natural → Option ℕ
-said_by (Value n) = some n
-said_by Bad = none
-
--- what a text says, by the answer of its reading
-pub said : {r x : Natural} (o : Option ℕ) → r ≡ natural_from o → r ≡ x → o ≡ said_by x
-said o e f = sym (go o) ∙ ap said_by (sym e ∙ f)
-  where
-    go : (o : Option ℕ) → said_by (natural_from o) ≡ o
-    go none = refl
-    go (some n) = refl
-
-pub below-limit : (s : List ℕ) {n : ℕ} → read_below offset_limit s ≡ some n → n < offset_limit
-below-limit s {n} e = ltb-true n offset_limit (only-some (λ n. ltb n offset_limit) (read_int s >>= natural) n e).1
 
 -- ---- the word
 
@@ -64,16 +43,17 @@ one_byte (x ∷ []) c l e = rw e
 one_byte (x ∷ y ∷ w) c l e = absurd (omega arith)
 
 -- one digit alone says its number
-pub offset-digit : (i : IntType) (w : List ℕ) (d : ℕ) → d ≡ only_digit w → d < 10 → offset_in i w ≡ some d
-offset-digit i w d e h = go (eqb (length w) 1) refl e
+pub offset-digit : (i : IntType) (w : List ℕ) {d : ℕ} → Some d ≡ only_digit w → offset_in i w ≡ some d
+offset-digit i w {d} e = go (eqb (length w) 1) refl e
   where
-    alone : length w ≡ 1 → d ≡ digit_at w 0 → offset_in i w ≡ some d
+    alone : length w ≡ 1 → Some d ≡ digit_at w 0 → offset_in i w ≡ some d
     alone l f =
-        let g = digit-of w 0 f (omega arith) in
-        let text : w ≡ nat_text d = one_byte w (48 + d) l g.value ∙ nat_text-read_nat ((48 + d) ∷ []) d (one-digit d (omega arith)) (omega arith) in
+        let g = digit-of w 0 f in
+        let small = g.small in
+        let text : w ≡ nat_text d = one_byte w (48 + d) l g.value ∙ nat_text-read_nat ((48 + d) ∷ []) d (one-digit d small) (omega arith) in
         offset-plain i w (λ z. omega arith) (λ z. omega (arith, g.value))
         ∙ (ap (read_below offset_limit) text ∙ read_below-nat_text offset_limit (omega arith) d (omega arith))
 
-    go : (b : Bool) → eqb (length w) 1 ≡ b → d ≡ cond b (digit_at w 0) 10 → offset_in i w ≡ some d
+    go : (b : Bool) → eqb (length w) 1 ≡ b → Some d ≡ cond b (digit_at w 0) None → offset_in i w ≡ some d
     go true l f = alone (eqb-true (length w) 1 l) f
-    go false l f = absurd (omega arith)
+    go false l f = cc

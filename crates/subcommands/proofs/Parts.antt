@@ -18,12 +18,12 @@ use Rattle.model.specs.Bitfield.{Sub}
 use Rattle.model.specs.Command.{look}
 use Rattle.model.specs.Parse.{word_at}
 use Rattle.model.specs.Subcommands.{SubName, OVERFLOW, sub_names, modes, arity, Part, get, set, incrby, overflow, part_of, parts_in, sub_of, mode_after, subs_in}
-use Rattle.command.specs.Subcommand.{model_mode, model_sub}
 use Rattle.command.specs.declared.subcommand.Operation.{Operation}
+use Rattle.command.specs.declared.subcommand.Sub.{Sub as Value}
 use Rattle.command.specs.declared.subcommand.Operation.TheVariants.{Get, Set, Incrby}
-use Rattle.subcommands.specs.Words.{sub_by}
-use Rattle.subcommands.specs.Steps.{name_of, TakesSub, TakesMode, outcome, resume, Takes}
-use Rattle.subcommands.specs.declared.Step.{Step}
+use Rattle.subcommands.specs.Words.{model_only, sub_by}
+use Rattle.subcommands.specs.Steps.{name_of, arity_of, Carries, outcome, resume}
+use Rattle.subcommands.proofs.Answers.{given-none, given-some}
 use Rattle.subcommands.proofs.Acting.{two-words}
 
 -- ---- the words of one part
@@ -90,17 +90,14 @@ mode-stays m Get t o n = refl
 mode-stays m Set t o n = refl
 mode-stays m (Incrby k) t o n = refl
 
--- the mode of an INCRBY is m
-abbrev pub Carries : Mode → Operation → Type 0
-Carries m Get = Unit {0}
-Carries m Set = Unit {0}
-Carries m (Incrby k) = model_mode k ≡ m
-
 under : (m : Mode) (op : Operation) → Carries m op → (t o n : List ℕ) → sub_of m (part_by op t o n) ≡ sub_by op t o n
 unfolding sub_by sub_of
 under m Get h t o n = refl
 under m Set h t o n = refl
 under m (Incrby k) h t o n = ap (λ (m : Mode). sub_of m (incrby t o n)) (sym h)
+
+abbrev refused : ℕ → Checked (List Sub)
+refused n = refuse n
 
 -- ---- from word i on
 
@@ -161,51 +158,62 @@ module _ (ws : List (List ℕ)) (i : ℕ) where
           (parts-own (arity s) rest (omega (arith, length-drop (i + 1) ws))
           ∙ ap (parts_in 0) (drop-drop (arity s) (i + 1) ws ∙ ap (λ (n : ℕ). drop n ws) (sym f)))
 
-    -- ---- what is taken there
+      -- too few words follow
+      short : (x : Option Part) → part_of s rest ≡ x → length ws < i + 1 + arity s → parts_in 0 (drop i ws) ≡ none
+      short none e l = by_part e
+      short (some p) e l = too_few p e l
 
-    module _ (m : Mode) where
-      pub taken-unknown : look (uppers (word_at i ws)) sub_names ≡ none → Takes ws i m Step.Malformed
-      taken-unknown e = record { model = λ w d. resume-none (named e) w d m; moves = tt }
+    -- ---- what words come to from there, under the mode m
 
-      -- a subcommand
-      module _ (op : Operation) (carries : Carries m op) (known : look (uppers (word_at i ws)) sub_names ≡ some (name_of op)) where
+    module _ (m : Mode) (w : Bool) (d : List Sub) where
+      pub at-unknown : {k : ℕ} → refuse k ≡ given 8 (look (uppers (word_at i ws)) sub_names) → refuse k ≡ resume w d m (drop i ws)
+      at-unknown e =
+          let n = given-none 8 (look (uppers (word_at i ws)) sub_names) e in
+          ap refused n.1 ∙ sym (resume-none (named n.0) w d m)
+
+      pub at-short : (s : SubName) → look (uppers (word_at i ws)) sub_names ≡ some s → length ws < i + 1 + arity s → refuse 8 ≡ resume w d m (drop i ws)
+      at-short s known l = sym (resume-none (short s known (part_of s rest) refl l) w d m)
+
+      -- a subcommand, of which the next one stands at word n
+      module _ (op : Operation) (carries : Carries m op) (known : look (uppers (word_at i ws)) sub_names ≡ some (name_of op))
+          (n : ℕ) (own : n ≡ i + 1 + arity_of op) (there : n ≤ length ws) where
         abbrev part : Part
         part = part_by op (word_at (i + 1) ws) (word_at (i + 1 + 1) ws) (word_at (i + 1 + 2) ws)
 
-        is : part_of (name_of op) rest ≡ some part
-        is = part-is op rest first-after (word_after 1) (word_after 2)
+        abbrev by_words : Option (List Sub)
+        by_words = sub_by op (word_at (i + 1) ws) (word_at (i + 1 + 1) ws) (word_at (i + 1 + 2) ws)
 
-        says : {x : Option (List Sub)} → sub_by op (word_at (i + 1) ws) (word_at (i + 1 + 1) ws) (word_at (i + 1 + 2) ws) ≡ x → sub_of m part ≡ x
+        begun : Begins part n
+        begun = begins (name_of op) known part n (part-is op rest first-after (word_after 1) (word_after 2)) own there
+
+        says : {x : Option (List Sub)} → by_words ≡ x → sub_of m part ≡ x
         says e = under m op carries (word_at (i + 1) ws) (word_at (i + 1 + 1) ws) (word_at (i + 1 + 2) ws) ∙ e
 
         stays : mode_after m part ≡ m
         stays = mode-stays m op (word_at (i + 1) ws) (word_at (i + 1 + 1) ws) (word_at (i + 1 + 2) ws)
 
-        pub sub-taken : (t : Step) → TakesSub ws (i + 1) op t → Takes ws i m t
-        sub-taken Step.Malformed t = record { model = λ w d. resume-none (too_few (name_of op) known part is t) w d m; moves = tt }
-        sub-taken (Step.Mode k n) t = absurd t
-        sub-taken (Step.Sub s n) t = record {
-          model = λ w d.
-              resume-part part n (begins (name_of op) known part n is t.0 t.1) w w d (d ++ (model_sub s ∷ [])) m m (outcome-sub w d m part (says t.2) stays);
-          moves = (omega (arith, t.0, two-words op), t.1);
-        }
-        sub-taken (Step.Wrong n) t = record {
-          model = λ w d. resume-part part n (begins (name_of op) known part n is t.0 t.1) w true d d m m (outcome-wrong w d m part (says t.2));
-          moves = (omega (arith, t.0), t.1);
-        }
+        pub at-sub : (s : Value) → ok (model_only s) ≡ given 9 by_words → resume w d m (drop i ws) ≡ resume w (d ++ model_only s) m (drop n ws)
+        at-sub s e = resume-part part n begun w w d (d ++ model_only s) m m (outcome-sub w d m part (says (given-some 9 by_words e)) stays)
+
+        pub at-wrong : {k : ℕ} → refuse k ≡ given 9 by_words → resume w d m (drop i ws) ≡ resume true d m (drop n ws)
+        at-wrong e = resume-part part n begun w true d d m m (outcome-wrong w d m part (says (given-none 9 by_words e).0))
+
+        pub goes : i + 3 ≤ n
+        goes = omega (arith, own, two-words op)
 
       -- an OVERFLOW
       module _ (known : look (uppers (word_at i ws)) sub_names ≡ some OVERFLOW) where
-        names : {x : Option Mode} → look (uppers (word_at (i + 1) ws)) modes ≡ x → part_of OVERFLOW rest ≡ map overflow x
+        abbrev mode_named : Option Mode
+        mode_named = look (uppers (word_at (i + 1) ws)) modes
+
+        names : {x : Option Mode} → mode_named ≡ x → part_of OVERFLOW rest ≡ map overflow x
         names e = ap (λ (w : List ℕ). map overflow (look (uppers w) modes)) first-after ∙ ap (map overflow) e
 
-        pub mode-taken : (t : Step) → TakesMode ws (i + 1) t → Takes ws i m t
-        mode-taken Step.Malformed t = record { model = λ w d. resume-none (by_part OVERFLOW known (names t)) w d m; moves = tt }
-        mode-taken (Step.Mode k n) t =
-            let p = overflow (model_mode k) in
-            record {
-              model = λ w d. resume-part p n (begins OVERFLOW known p n (names t.2) t.0 t.1) w w d d m (model_mode k) (outcome-mode w d m (model_mode k));
-              moves = (omega (arith, t.0), t.1);
-            }
-        mode-taken (Step.Sub s n) t = absurd t
-        mode-taken (Step.Wrong n) t = absurd t
+        pub at-no_mode : {k : ℕ} → refuse k ≡ given 8 mode_named → refuse k ≡ resume w d m (drop i ws)
+        at-no_mode e =
+            let n = given-none 8 mode_named e in
+            ap refused n.1 ∙ sym (resume-none (by_part OVERFLOW known (names n.0)) w d m)
+
+        pub at-mode : {k : Mode} (n : ℕ) → n ≡ i + 1 + 1 → n ≤ length ws → ok k ≡ given 8 mode_named → resume w d m (drop i ws) ≡ resume w d k (drop n ws)
+        at-mode {k} n own there e =
+            resume-part (overflow k) n (begins OVERFLOW known (overflow k) n (names (given-some 8 mode_named e)) own there) w w d d m k (outcome-mode w d m k)

@@ -1,13 +1,15 @@
 -- Types: which signs and widths make one, and a type's word by its letter and its width.
 use Prim.Native.Nat.{ℕ, ◌≤◌, ◌<◌}
 use native.Mathlib.Omega.{arith}
-use mathlib.Core.Path.{◌≡◌, refl, sym, ap, ◌∙◌}
+use mathlib.Core.Path.{◌≡◌, refl, ap, ◌∙◌}
 use mathlib.Core.Bool.{Bool, true, false, cond, ◌&&◌}
 use mathlib.Core.List.{List, [], ◌∷◌}
 use mathlib.Core.Option.{Option, none, some}
 use lib.Dec.{leb, ltb}
 use lib.ListN.{length, drop, get_or}
-use borrow.Author.Tests.{ltb-false, le-leb, lt-leb, ne_eqb}
+use borrow.Author.Tests.{ltb-false, lt-leb}
+use Rattle.std.specs.Prelude.{Some, None}
+use Rattle.outcome.specs.Outcome.{from_model}
 use Rattle.model.specs.Optional.{◌>>=◌, only}
 use Rattle.model.specs.Number.{read_nat}
 use Rattle.model.specs.Field.{is_int_type}
@@ -20,40 +22,36 @@ use Rattle.subcommands.specs.Words.{width_from, type_of}
 abbrev most : Bool → ℕ
 most s = cond s 64 63
 
-pub most-is : {s b : Bool} → s ≡ b → most s ≡ most b
-most-is e = ap most e
-
-pub most-range : (s : Bool) → (63 ≤ most s) × (most s ≤ 64)
+most-range : (s : Bool) → (63 ≤ most s) × (most s ≤ 64)
 most-range true = omega arith
 most-range false = omega arith
 
 module _ (s : Bool) (w : ℕ) where
-  pub no-width : w ≡ 0 → only is_int_type (some (type_of s w)) ≡ none
-  no-width z = rw z
-
-  pub too_wide : most s < w → only is_int_type (some (type_of s w)) ≡ none
+  too_wide : most s < w → only is_int_type (some (type_of s w)) ≡ none
   too_wide h = rw (lt-leb w (most s) h) (go (leb 1 w))
     where
       go : (b : Bool) → cond (b && false) (some (type_of s w)) none ≡ none
       go true = refl
       go false = refl
 
-  pub a-type : 1 ≤ w → w ≤ most s → only is_int_type (some (type_of s w)) ≡ some (type_of s w)
-  a-type l h = rw (le-leb 1 w l, le-leb w (most s) h)
-
 -- ---- a letter and a width
 
--- no type has a width of 100 or more, so that it counts as none
-width_read : (s : Bool) (o : Option ℕ) → only is_int_type (some (type_of s (width_from o))) ≡ only is_int_type (o >>= λ w. some (type_of s w))
-width_read s none = refl
-width_read s (some n) = go (ltb n 100) refl
+-- a width of more than two digits is that of no type
+no-width : (s : Bool) (o : Option ℕ) → None ≡ width_from o → only is_int_type (o >>= λ w. some (type_of s w)) ≡ none
+no-width s none e = refl
+no-width s (some n) e = go (ltb n 100) refl e
   where
-    go : (b : Bool) → ltb n 100 ≡ b → only is_int_type (some (type_of s (cond b n 0))) ≡ only is_int_type (some (type_of s n))
-    go true e = refl
-    go false e = sym (too_wide s n (omega (arith, ltb-false n 100 e, most-range s)))
+    go : (b : Bool) → ltb n 100 ≡ b → None ≡ from_model (cond b (some n) none) → only is_int_type (some (type_of s n)) ≡ none
+    go true t e = cc
+    go false t e = too_wide s n (omega (arith, ltb-false n 100 t, most-range s))
 
-pub letter-other : {c : ℕ} → (c ≡ 105 → ⊥) → (c ≡ 117 → ⊥) → sign_in c ≡ none
-letter-other {c} p q = rw (ne_eqb c 105 p, ne_eqb c 117 q)
+a-width : (o : Option ℕ) {w : ℕ} → Some w ≡ width_from o → o ≡ some w
+a-width none e = cc
+a-width (some n) {w} e = go (ltb n 100) e
+  where
+    go : (b : Bool) → Some w ≡ from_model (cond b (some n) none) → some n ≡ some w
+    go true e = cc
+    go false e = cc
 
 pub type-empty : (w : List ℕ) → length w ≡ 0 → type_in w ≡ none
 unfolding type_in
@@ -68,8 +66,12 @@ type-letter [] l e = absurd (omega arith)
 type-letter (c ∷ w) l e = ap (λ (x : Option Bool). only is_int_type (x >>= λ s. read_nat w >>= λ n. some (type_of s n))) e
 
 module _ (w : List ℕ) (l : 0 < length w) where
-  pub type-known : {s : Bool} → sign_in (get_or w 0 0) ≡ some s → only is_int_type (some (type_of s (width_from (read_nat (drop 1 w))))) ≡ type_in w
-  type-known {s} e = width_read s (read_nat (drop 1 w)) ∙ sym (type-letter w l e)
-
   pub type-unknown : sign_in (get_or w 0 0) ≡ none → type_in w ≡ none
   type-unknown e = type-letter w l e
+
+  module _ {s : Bool} (sign : sign_in (get_or w 0 0) ≡ some s) where
+    pub type-none : None ≡ width_from (read_nat (drop 1 w)) → type_in w ≡ none
+    type-none e = type-letter w l sign ∙ no-width s (read_nat (drop 1 w)) e
+
+    pub type-known : {n : ℕ} → Some n ≡ width_from (read_nat (drop 1 w)) → type_in w ≡ only is_int_type (some (type_of s n))
+    type-known e = type-letter w l sign ∙ ap (λ (o : Option ℕ). only is_int_type (o >>= λ w. some (type_of s w))) (a-width (read_nat (drop 1 w)) e)

@@ -1,4 +1,6 @@
 -- A type's width by its digits: what one or two say, and that more say no width of a type.
+use Rattle.std.specs.Prelude.{Some, None}
+use Rattle.outcome.specs.Outcome.{from_model}
 use Prim.Native.Nat.{ℕ, zero, suc, ◌+◌, ◌*◌, ◌≤◌, ◌<◌}
 use native.Mathlib.Omega.{arith}
 use mathlib.Core.Path.{◌≡◌, refl, sym, ap, ◌∙◌}
@@ -6,8 +8,8 @@ use mathlib.Core.Bool.{Bool, true, false, cond}
 use mathlib.Core.List.{List, [], ◌∷◌}
 use mathlib.Core.Option.{Option, none, some}
 use lib.Dec.{eqb, ltb}
-use lib.ListN.{length, drop, get_or, length-drop, drop_of_length-le}
-use lib.Seq.{drop-cons, get_or-drop}
+use lib.ListN.{length, drop, get_or, drop_of_length-le}
+use lib.Seq.{drop-cons}
 use borrow.Author.Tests.{ltb-true, lt-ltb, ne_eqb}
 use Rattle.model.specs.Number.{is_digit, read_nat}
 use Rattle.model.proofs.Basics.{never}
@@ -40,63 +42,65 @@ bad-second x y s t = rw t (go (eqb x 48) (is_digit x))
     go false false = refl
 
 -- three bytes or more say no number below 100
-long : (s : List ℕ) → 3 ≤ length s → width_from (read_nat s) ≡ 0
+long : (s : List ℕ) → 3 ≤ length s → width_from (read_nat s) ≡ None
 long s h = go (read_nat s) refl
   where
-    below : (n : ℕ) (b : Bool) → ltb n 100 ≡ b → read_nat s ≡ some n → cond b n 0 ≡ 0
+    below : (n : ℕ) (b : Bool) → ltb n 100 ≡ b → read_nat s ≡ some n → from_model (cond b (some n) none) ≡ None
     below n true t e =
         let small : n < 100 = ltb-true n 100 t in
         absurd (omega (arith, length-nat_text 1 n small, ap length (nat_text-read_nat s n e (omega arith))))
     below n false t e = refl
 
-    go : (o : Option ℕ) → read_nat s ≡ o → width_from o ≡ 0
+    go : (o : Option ℕ) → read_nat s ≡ o → width_from o ≡ None
     go none e = refl
     go (some n) e = below n (ltb n 100) refl e
 
-small_width : (n : ℕ) → n < 100 → width_from (some n) ≡ n
+small_width : (n : ℕ) → n < 100 → width_from (some n) ≡ Some n
 small_width n h = rw (lt-ltb n 100 h)
 
--- ---- the width after a type's letter, by the digits d and e
+-- ---- the width by the digits d and e
 
-module _ (w : List ℕ) {d : ℕ} (first : d ≡ digit_at w 1) where
-  pub width-none : 9 < d → 0 ≡ width_from (read_nat (drop 1 w))
-  width-none h = sym (ap width_from (bad-first (drop 1 w) (ap is_digit (get_or-drop 1 w 0 0) ∙ digit_not w 1 first h)))
+module _ (s : List ℕ) where
+  pub width-none : None ≡ digit_at s 0 → None ≡ width_from (read_nat s)
+  width-none e = sym (ap width_from (bad-first s (digit_not s 0 e)))
 
-  module _ (h : d ≤ 9) where
-    -- the text of the width
-    text : drop 1 w ≡ (48 + d) ∷ drop 2 w
+  module _ {d : ℕ} (first : Some d ≡ digit_at s 0) where
+    text : s ≡ (48 + d) ∷ drop 1 s
     text =
-        let g = digit-of w 1 first h in
-        drop-cons w 1 0 g.within ∙ ap (λ (x : ℕ). x ∷ drop 2 w) g.value
+        let g = digit-of s 0 first in
+        drop-cons s 0 0 g.within ∙ ap (λ (x : ℕ). x ∷ drop 1 s) g.value
 
-    pub width_one : length w ≡ 2 → d ≡ width_from (read_nat (drop 1 w))
+    pub width_one : length s ≡ 1 → Some d ≡ width_from (read_nat s)
     width_one l =
+        let h = (digit-of s 0 first).small in
         sym
-        (ap (λ (s : List ℕ). width_from (read_nat s)) (text ∙ ap (λ (s : List ℕ). (48 + d) ∷ s) (drop_of_length-le w {i = 2} (omega arith)))
+        (ap (λ (s : List ℕ). width_from (read_nat s)) (text ∙ ap (λ (s : List ℕ). (48 + d) ∷ s) (drop_of_length-le s {i = 1} (omega arith)))
         ∙ (ap width_from (one-digit d h) ∙ small_width d (omega arith)))
 
-    module _ {e : ℕ} (second : e ≡ digit_at w 2) (l : length w ≡ 2 → ⊥) where
-      enough : 2 < length w
-      enough = omega (arith, (digit-of w 1 first h).within)
+    module _ (l : length s ≡ 1 → ⊥) where
+      enough : 1 < length s
+      enough = omega (arith, (digit-of s 0 first).within)
 
-      more : drop 1 w ≡ (48 + d) ∷ get_or w 2 0 ∷ drop 3 w
-      more = text ∙ ap (λ (s : List ℕ). (48 + d) ∷ s) (drop-cons w 2 0 enough)
+      more : s ≡ (48 + d) ∷ get_or s 1 0 ∷ drop 2 s
+      more = text ∙ ap (λ (s : List ℕ). (48 + d) ∷ s) (drop-cons s 1 0 enough)
 
-      pub width-short : 9 < e → 0 ≡ width_from (read_nat (drop 1 w))
-      width-short g = sym (ap (λ (s : List ℕ). width_from (read_nat s)) more ∙ ap width_from (bad-second (48 + d) (get_or w 2 0) (drop 3 w) (digit_not w 2 second g)))
+      pub width-short : None ≡ digit_at s 1 → None ≡ width_from (read_nat s)
+      width-short e = sym (ap (λ (s : List ℕ). width_from (read_nat s)) more ∙ ap width_from (bad-second (48 + d) (get_or s 1 0) (drop 2 s) (digit_not s 1 e)))
 
-      pub width-long : (length w ≡ 3 → ⊥) → 0 ≡ width_from (read_nat (drop 1 w))
-      width-long m = sym (long (drop 1 w) (omega (arith, enough, length-drop 1 w)))
+      pub width-long : (length s ≡ 2 → ⊥) → None ≡ width_from (read_nat s)
+      width-long m = sym (long s (omega (arith, enough)))
 
-      module _ (g : e ≤ 9) (m : length w ≡ 3) where
-        two : drop 1 w ≡ (48 + d) ∷ (48 + e) ∷ []
-        two = more ∙ (λ i. (48 + d) ∷ (digit-of w 2 second g).value i ∷ drop_of_length-le w {i = 3} (omega arith) i)
+      module _ {e : ℕ} (second : Some e ≡ digit_at s 1) (m : length s ≡ 2) where
+        two : s ≡ (48 + d) ∷ (48 + e) ∷ []
+        two = more ∙ (λ i. (48 + d) ∷ (digit-of s 1 second).value i ∷ drop_of_length-le s {i = 2} (omega arith) i)
 
-        pub width-zero : d ≡ 0 → 0 ≡ width_from (read_nat (drop 1 w))
+        pub width-zero : d ≡ 0 → None ≡ width_from (read_nat s)
         width-zero z = sym (ap (λ (s : List ℕ). width_from (read_nat s)) two ∙ rw z)
 
-        pub width_two : (d ≡ 0 → ⊥) → 10 * d + e ≡ width_from (read_nat (drop 1 w))
+        pub width_two : (d ≡ 0 → ⊥) → Some (10 * d + e) ≡ width_from (read_nat s)
         width_two n =
+            let h = (digit-of s 0 first).small in
+            let g = (digit-of s 1 second).small in
             sym
             (ap (λ (s : List ℕ). width_from (read_nat s)) two
             ∙ (ap width_from (two_digits d e (omega arith) h g) ∙ small_width (10 * d + e) (omega arith)))
