@@ -16,12 +16,10 @@ pub fn exget(table: &[u8], target: Target, with_flags: bool, reply: &mut [u8]) -
     requires { Sound (shape_of target) table.now target.found × Room (shape_of target) reply.old }
     ensures { Does (shape_of target) (held table.now reply.old) (held table.now reply.new) (act_in table.now target [] [] (ActionOf.Exget with_flags)) result }
 {
-    let found = target.found;
-    let form = target.form;
-    let Lookup::Live { slot, attributes } = found else {
+    let Lookup::Live { slot, attributes } = target.found else {
         return reply::nil(reply);
     };
-    let value = record::value(table::record_at(table, form, slot));
+    let value = record::value(table::record_at(table, target.form, slot));
     reply::get(
         reply,
         with_flags,
@@ -36,17 +34,14 @@ pub fn exsetver(table: &mut [u8], target: Target, version: u64, reply: &mut [u8]
     requires { Sound (shape_of target) table.old target.found × Room (shape_of target) reply.old }
     ensures { Does (shape_of target) (held table.old reply.old) (held table.new reply.new) (act_in table.old target [] [] (ActionOf.Exsetver version)) result }
 {
-    let found = target.found;
-    let form = target.form;
-    let Lookup::Live { slot, attributes } = found else {
+    let Lookup::Live { slot, attributes } = target.found else {
         return reply::number(reply, 0);
     };
     let changed = Attributes {
-        flags: attributes.flags,
         version,
-        expiry: attributes.expiry,
+        ..attributes
     };
-    table::set_attributes(table, form, slot, changed);
+    table::set_attributes(table, target.form, slot, changed);
     reply::number(reply, 1)
 }
 
@@ -55,13 +50,11 @@ pub fn excad(table: &mut [u8], target: Target, version: u64, reply: &mut [u8]) -
     requires { Sound (shape_of target) table.old target.found × Room (shape_of target) reply.old }
     ensures { Does (shape_of target) (held table.old reply.old) (held table.new reply.new) (act_in table.old target [] [] (ActionOf.Excad version)) result }
 {
-    let found = target.found;
-    let form = target.form;
-    let Lookup::Live { slot, attributes } = found else {
+    let Lookup::Live { slot, attributes } = target.found else {
         return reply::minus_one(reply);
     };
     if version == attributes.version {
-        table::clear(table, form, slot);
+        table::clear(table, target.form, slot);
         return reply::number(reply, 1);
     }
     reply::number(reply, 0)
@@ -72,19 +65,16 @@ pub fn exgae(table: &mut [u8], target: Target, expire: Expire, reply: &mut [u8])
     requires { Sound (shape_of target) table.old target.found × Room (shape_of target) reply.old }
     ensures { Does (shape_of target) (held table.old reply.old) (held table.new reply.new) (act_in table.old target [] [] (ActionOf.Exgae expire)) result }
 {
-    let found = target.found;
-    let form = target.form;
-    let Lookup::Live { slot, attributes } = found else {
+    let Lookup::Live { slot, attributes } = target.found else {
         return reply::nil(reply);
     };
     let shown = exget(table, target, true, reply);
-    let expiry = live::expiry_after(found, expire);
+    let expiry = live::expiry_after(target.found, expire);
     let touched = Attributes {
-        flags: attributes.flags,
-        version: attributes.version,
         expiry,
+        ..attributes
     };
-    table::set_attributes(table, form, slot, touched);
+    table::set_attributes(table, target.form, slot, touched);
     shown
 }
 
@@ -93,15 +83,9 @@ pub fn del(table: &mut [u8], target: Target, reply: &mut [u8]) -> Answer
     requires { Sound (shape_of target) table.old target.found × Room (shape_of target) reply.old }
     ensures { Does (shape_of target) (held table.old reply.old) (held table.new reply.new) (act_in table.old target [] [] ActionOf.Del) result }
 {
-    let found = target.found;
-    let form = target.form;
-    let Lookup::Live {
-        slot,
-        attributes: _,
-    } = found
-    else {
+    let Lookup::Live { slot, .. } = target.found else {
         return reply::number(reply, 0);
     };
-    table::clear(table, form, slot);
+    table::clear(table, target.form, slot);
     reply::number(reply, 1)
 }

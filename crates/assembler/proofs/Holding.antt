@@ -1,7 +1,7 @@
 -- A piece behind bytes that leave a state: what the scan of the piece tells is what the model's `feed_in` gives.
 use mathlib.Core.Path.{◌≡◌, sym, ap, ◌∙◌}
 use mathlib.Core.Bool.{cond}
-use mathlib.Core.List.{List, [], ◌++◌}
+use mathlib.Core.List.{List, ◌++◌}
 use Prim.Native.Nat.{ℕ, ◌+◌, ◌≤◌, ◌<◌}
 use native.Mathlib.Omega.{arith}
 use lib.ListN.{length, take}
@@ -12,11 +12,11 @@ use Rattle.stream.specs.Feed.{refused}
 use Rattle.stream.specs.Machine as machine
 use Rattle.stream.specs.Machine.{begin, Scan, going, ended, dead, scan, fed_by, after_held}
 use Rattle.stream.specs.Assembler.{feed_in, bytes_after}
-use Rattle.stream.proofs.Steps.{begin-after, scan-after, feed_by_scan-feed}
+use Rattle.stream.proofs.Steps.{feed_by_scan-feed}
 use Rattle.stream.proofs.Assemblers.{in_held, written-placed, more_room, whole_room, after-length}
-use Rattle.assembler.specs.declared.machine.State.{State}
+use Rattle.assembler.specs.declared.state.State.{State}
 use Rattle.assembler.specs.declared.Assembled.TheVariants.{More, Whole, Refused}
-use Rattle.assembler.specs.States.{state_of, Fits}
+use Rattle.assembler.specs.States.{state_of}
 use Rattle.assembler.specs.Assembling.{Begun, Assembles}
 
 -- a refusal changes nothing
@@ -30,10 +30,6 @@ assembles-improper b n piece h k x e f =
     assembles-refused b n piece 0 (in_held b n piece h k ∙ (sym (feed_by_scan-feed (take n b) piece) ∙ (ap (after_held (take n b) piece) e ∙ f)))
 
 module _ {b : List ℕ} {n : ℕ} {st : State} (k : Begun b n st) where
-  -- a whole command can follow
-  pub begun-fits : Fits st
-  begun-fits = (scan-after [] begin (take n b) (state_of st) begin-after k.state).fit
-
   module _ (piece : List ℕ) where
     fed : (x : Scan) → scan (state_of st) piece ≡ x → feed_in b n piece ≡ fed_by (take n b) piece x
     fed x e =

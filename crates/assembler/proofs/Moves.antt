@@ -1,47 +1,20 @@
--- The model's places by a byte, as the code tells them: where n is 0 and where it is not, and how far the need can rise.
+-- The model's places by a byte: how far the need can rise, and what is beyond the limit.
 use Prim.Native.Nat.{ℕ, zero, suc, ◌+◌, ◌-◌, ◌*◌, ◌≤◌}
 use native.Mathlib.Omega.{arith}
 use mathlib.Core.Path.{◌≡◌, refl, ap, subst}
 use mathlib.Core.Bool.{Bool, true, false, cond, ◌&&◌, not}
-use mathlib.Core.Option.{none, some}
+use mathlib.Core.Option.{some}
 use lib.Dec.{leb, ltb, eqb}
-use borrow.Author.Tests.{le-leb, leb-true, leb-false, lt-ltb, le-ltb, ne_eqb}
+use borrow.Author.Tests.{le-leb, leb-true, leb-false, lt-ltb, le-ltb}
 use Rattle.model.specs.Number.{is_digit}
 use Rattle.model.specs.Resp.{command_limit, array_mark, bulk_mark}
 use Rattle.model.proofs.Basics.{and_left, some-eq, none-some}
 use Rattle.model.proofs.Numbers.{digit-range}
 use Rattle.stream.specs.Frame.{Header, array, bulk, Place, start, first, digit, line_end, body, body_end, words, allowed, after, to, next, least, need_after, need, fits}
-use Rattle.stream.specs.Machine.{is_end}
 use Rattle.stream.proofs.Viable.{stepped, need-after}
 use Rattle.assembler.specs.Places.{beyond}
 
--- ---- words and bodies
-
-pub words-end : (n : ℕ) → eqb n 0 ≡ is_end (words n)
-words-end zero = refl
-words-end (suc n) = ne_eqb (suc n) 0 (λ e. omega arith)
-
-module _ (n c : ℕ) where
-  pub words-none : n ≡ 0 → next (words n) c ≡ none
-  words-none e = rw e
-
-  pub body-last : (later : ℕ) → n ≡ 0 → next (body n later) c ≡ to (eqb c 13) (body_end later)
-  body-last later e = rw e
-
-pub words-next : (n c : ℕ) → (n ≡ 0 → ⊥) → next (words n) c ≡ to (eqb c bulk_mark) (first (bulk (n - 1)))
-words-next zero c h = absurd (h refl)
-words-next (suc n) c h = let e : suc n - 1 ≡ n = omega arith in rw e
-
-pub body-next : (n later c : ℕ) → (n ≡ 0 → ⊥) → next (body n later) c ≡ some (body (n - 1) later)
-body-next zero later c h = absurd (h refl)
-body-next (suc n) later c h = let e : suc n - 1 ≡ n = omega arith in rw e
-
 -- ---- the need
-
--- digits of a header that a whole command can follow mean a small number
-pub digits-small : (h : Header) (n : ℕ) → 2 + need_after h n ≤ 512 → n ≤ 512
-digits-small array n k = omega arith
-digits-small (bulk later) n k = omega arith
 
 -- one digit more
 longer-need : (h : Header) (n d : ℕ) → d ≤ 9 → 2 + need_after h (10 * n + d) ≤ 10 * (2 + need_after h n) + 54

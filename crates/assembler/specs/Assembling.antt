@@ -5,7 +5,7 @@ use Rattle.stream.specs.Feed.{Fed, more, complete, refused}
 use Rattle.stream.specs.Machine.{begin, going, scan}
 use Rattle.stream.specs.Assembler.{feed_in, bytes_after}
 use Rattle.assembler.specs.States.{state_of}
-use Rattle.assembler.specs.declared.machine.State.{State}
+use Rattle.assembler.specs.declared.state.State.{State}
 use Rattle.assembler.specs.declared.Assembled.{Assembled}
 use Rattle.assembler.specs.declared.Assembled.TheVariants.{More, Whole, Refused}
 

@@ -3,13 +3,15 @@
 
 mod frame;
 mod machine;
+mod state;
 
 ghost use Rattle.std.specs.Prelude.{◌≡◌, ◌+◌, ◌≤◌, cond, length, take, eqb};
 ghost use Rattle.model.specs.Bytes.{written};
 ghost use Rattle.stream.specs.Assembler.{command_in};
 ghost use Rattle.assembler.specs.Assembling.{Begun, Assembles};
 
-use crate::machine::{Scanned, State, begin, scan};
+use crate::machine::Scanned;
+use crate::state::State;
 
 // The bytes that an assembler needs: the longest command.
 pub const SIZE: usize = 512;
@@ -17,6 +19,7 @@ pub const SIZE: usize = 512;
 // What a piece comes to. `More`: no whole command yet, and all its bytes are taken and held. `Whole`: so many of its bytes are taken, and they
 // make the command whole. `Refused`: so many are taken, and no whole command can follow; 0: what is held cannot have
 // come from a call.
+// Kept: an enum of three; as an `Option` in a `Result` its three cases would have no names of their own, which is no plainer.
 #[derive(Clone, Copy)]
 pub enum Assembled {
     More,
@@ -32,7 +35,7 @@ fn keep(bytes: &mut [u8], held: usize, piece: &[u8], n: usize)
     if held == 0 {
         return;
     }
-    slice::copy(bytes, held, &piece[0..n]);
+    slice::copy(bytes, held, &piece[..n]);
 }
 
 // Takes a piece behind bytes that are held and leave this state.
@@ -40,7 +43,7 @@ fn extend(bytes: &mut [u8], held: usize, piece: &[u8], state: State) -> Assemble
     requires { Begun bytes.old held state }
     ensures { Assembles bytes.old held piece.now result bytes.new }
 {
-    match scan(state, piece) {
+    match state.scan(piece) {
         Scanned::More(_) => {
             slice::copy(bytes, held, piece);
             Assembled::More
@@ -55,19 +58,16 @@ fn extend(bytes: &mut [u8], held: usize, piece: &[u8], state: State) -> Assemble
 
 // Takes a piece. The first `held` bytes of the assembler's are those of the pieces before it, 0 for none; where they cannot be, or the assembler
 // has fewer than 512 bytes, no byte is taken.
+// Kept: buffer and count as two, as C hands them over at each call; a struct would be made for one call and taken apart after it.
 pub fn assemble(bytes: &mut [u8], held: usize, piece: &[u8]) -> Assembled
     ensures { Assembles bytes.old held piece.now result bytes.new }
 {
-    if bytes.len() < SIZE {
+    if bytes.len() < SIZE || bytes.len() < held {
         return Assembled::Refused(0);
     }
-    if bytes.len() < held {
-        return Assembled::Refused(0);
-    }
-    match scan(begin(), &bytes[0..held]) {
+    match State::begin().scan(&bytes[..held]) {
         Scanned::More(state) => extend(bytes, held, piece, state),
-        Scanned::Whole(_) => Assembled::Refused(0),
-        Scanned::Dead(_) => Assembled::Refused(0),
+        Scanned::Whole(_) | Scanned::Dead(_) => Assembled::Refused(0),
     }
 }
 
@@ -78,7 +78,7 @@ pub fn command<'a>(bytes: &'a [u8], held: usize, piece: &'a [u8], n: usize) -> &
     ensures { result.now ≡ command_in bytes.now held piece.now n }
 {
     if held == 0 {
-        return &piece[0..n];
+        return &piece[..n];
     }
-    &bytes[0..held + n]
+    &bytes[..held + n]
 }

@@ -1,5 +1,5 @@
 -- What an action shows of what stands under its key.
-use Prim.Native.Nat.{ℕ, suc, ◌-◌, ◌<◌}
+use Prim.Native.Nat.{ℕ, suc, ◌+◌, ◌-◌}
 use native.Mathlib.Nat.{add-sub_cancel_left}
 use mathlib.Core.Path.{◌≡◌, refl, ap, ◌∙◌}
 use mathlib.Core.Bool.{Bool, true, false}
@@ -24,8 +24,7 @@ use Rattle.model.proofs.Commands.{IsValue, ActionOk}
 use Rattle.record.specs.declared.Attributes.{Attributes}
 use Rattle.table.specs.Slots.{slots_of}
 use Rattle.resp.specs.declared.Span.{Span}
-use Rattle.resp.specs.Spans.{words_of, span_at, span_in, Splits}
-use Rattle.resp.proofs.Spans.{span-within}
+use Rattle.resp.specs.Spans.{span_at}
 use Rattle.command.specs.Command.{model_action, model_command}
 use Rattle.command.specs.declared.Action.{Action}
 use Rattle.command.specs.declared.Action.TheVariants.{Exset, Exget, Exsetver, Exincrby, Excas, Excad, Exjoin, Exgae, Del}
@@ -86,36 +85,36 @@ module _ (t : List ℕ) (g : Target) (a : Action) (v : Span) where
 
 -- ---- by the model
 
--- the value of a parsed EXCAS ends no earlier than it begins
-pub action-at : {c places : List ℕ} → Splits c places → (f : Form) (a : Action) → ActionOk f (words_of c) (model_action (word_at 2 (words_of c)) a) → ActionAt a (span_in places 2)
+-- a parsed EXCAS has a value
+pub action-at : (f : Form) (ws : List (List ℕ)) (a : Action) → ActionOk f ws (model_action (word_at 2 ws) a) → ActionAt a ws
 unfolding model_action
-action-at d f (Excas s) h = (span-within d 2 h.0.within).0
-action-at d f (Exset s) h = tt
-action-at d f (Exget w) h = tt
-action-at d f (Exsetver n) h = tt
-action-at d f (Exincrby s) h = tt
-action-at d f (Excad n) h = tt
-action-at d f (Exjoin s) h = tt
-action-at d f (Exgae e) h = tt
-action-at d f Del h = tt
+action-at f ws (Excas s) h = h.0.within
+action-at f ws (Exset s) h = tt
+action-at f ws (Exget w) h = tt
+action-at f ws (Exsetver n) h = tt
+action-at f ws (Exincrby s) h = tt
+action-at f ws (Excad n) h = tt
+action-at f ws (Exjoin s) h = tt
+action-at f ws (Exgae e) h = tt
+action-at f ws Del h = tt
 
 nothing-either : (x : Checked Effect) → nothing ≡ or_nothing (x >> ok nothing)
 nothing-either (refuse n) = refl
 nothing-either (ok e) = refl
 
-module _ (f : Form) (time : ℕ) (t : List ℕ) (ws : List (List ℕ)) (v : Span) (place : 2 < length ws → v ≡ span_at 2 ws) where
+module _ (f : Form) (time : ℕ) (t : List ℕ) (ws : List (List ℕ)) where
   -- what the model shows, where the search answered l
   abbrev shows_at : Lookup → Action → Shown
   shows_at l a = or_nothing (shows_by f time (slots_of f t) ws (model_lookup f t l) (model_command ws a))
 
-  swap-shown : (i : ℕ) (x : Attributes) (s : Swap) → IsValue f ws (word_at 2 ws) → shown_at f t i x.version (Live i x) (Excas s) v ≡ shows_at (Live i x) (Excas s)
+  swap-shown : (i : ℕ) (x : Attributes) (s : Swap) → IsValue f ws (word_at 2 ws) → shown_at f t i x.version (Live i x) (Excas s) (span_at 2 ws) ≡ shows_at (Live i x) (Excas s)
   unfolding model_action write put
   swap-shown i x s w = go (eqb s.version x.version) (ltb (suc x.version) version_limit) refl refl
     where
-      part : in_command v.start (v.end - v.start) ≡ in_command (word_start 2 ws) (length (word_at 2 ws))
-      part = (λ j. in_command (place w.within j).start ((place w.within j).end - (place w.within j).start)) ∙ ap (in_command (word_start 2 ws)) (add-sub_cancel_left (word_start 2 ws) (length (word_at 2 ws)))
+      part : in_command (word_start 2 ws) (word_start 2 ws + length (word_at 2 ws) - word_start 2 ws) ≡ in_command (word_start 2 ws) (length (word_at 2 ws))
+      part = ap (in_command (word_start 2 ws)) (add-sub_cancel_left (word_start 2 ws) (length (word_at 2 ws)))
 
-      go : (b h : Bool) → eqb s.version x.version ≡ b → ltb (suc x.version) version_limit ≡ h → shown_at f t i x.version (Live i x) (Excas s) v ≡ shows_at (Live i x) (Excas s)
+      go : (b h : Bool) → eqb s.version x.version ≡ b → ltb (suc x.version) version_limit ≡ h → shown_at f t i x.version (Live i x) (Excas s) (span_at 2 ws) ≡ shows_at (Live i x) (Excas s)
       go true true e q = rw (e, q, le-leb (length (word_at 2 ws)) f.value_limit w.fits) part
       go true false e q = rw (e, q)
       go false h e q = rw e
@@ -123,7 +122,7 @@ module _ (f : Form) (time : ℕ) (t : List ℕ) (ws : List (List ℕ)) (v : Span
   none-at : (l : Lookup) (a : Action) → nothing ≡ or_nothing (execute_on f time (slots_of f t) (model_lookup f t l) (model_command ws a) >> ok nothing)
   none-at l a = nothing-either (execute_on f time (slots_of f t) (model_lookup f t l) (model_command ws a))
 
-  shown-at : (l : Lookup) (a : Action) → ActionOk f ws (model_action (word_at 2 ws) a) → shown_of f t l a v ≡ shows_at l a
+  shown-at : (l : Lookup) (a : Action) → ActionOk f ws (model_action (word_at 2 ws) a) → shown_of f t l a (span_at 2 ws) ≡ shows_at l a
   unfolding model_action
   shown-at (Expired i) a h = none-at (Expired i) a
   shown-at Absent a h = none-at Absent a
@@ -145,10 +144,10 @@ module _ (f : Form) (time : ℕ) (t : List ℕ) (ws : List (List ℕ)) where
   shown_for x = or_nothing (x >>= λ (c : Command). shows_by f time (slots_of f t) ws (lookup time c.key (slots_of f t)) c)
 
   -- what is shown by what the search answered is what the model shows
-  pub shown-is : (a : Action) → ok (model_command ws a) ≡ parse f time ws → ActionOk f ws (model_action (word_at 2 ws) a) → (v : Span) → (2 < length ws → v ≡ span_at 2 ws)
-      → {l : Lookup} → IsUnder f t time (word_at 1 ws) l → shown_of f t l a v ≡ shown_for (parse f time ws)
-  shown-is a e h v place {l} u =
-      shown-at f time t ws v place l a h
+  pub shown-is : (a : Action) → ok (model_command ws a) ≡ parse f time ws → ActionOk f ws (model_action (word_at 2 ws) a)
+      → {l : Lookup} → IsUnder f t time (word_at 1 ws) l → shown_of f t l a (span_at 2 ws) ≡ shown_for (parse f time ws)
+  shown-is a e h {l} u =
+      shown-at f time t ws l a h
       ∙ (ap (λ (l : model.Lookup). or_nothing (shows_by f time (slots_of f t) ws l (model_command ws a))) u.is
       ∙ ap shown_for e)
 

@@ -1,5 +1,5 @@
 -- What ties the place of the current value to the model's.
-use Rattle.std.specs.Prelude.{ℕ, ◌+◌, ◌-◌, ◌*◌, ◌≤◌, cond, List, length, eqb}
+use Rattle.std.specs.Prelude.{ℕ, ◌+◌, ◌-◌, ◌*◌, ◌<◌, cond, List, length, eqb}
 use Rattle.std.proofs.Math.Option.{none}
 use Rattle.model.specs.Checked.{ok, ◌>>◌}
 use Rattle.model.specs.Table.{Form, record_size, value_at}
@@ -46,14 +46,14 @@ shown_of f t Absent x v = model.nothing
 abbrev pub shown_by : (t : List ℕ) → Target → Action → (v : Span) → model.Shown
 shown_by t g = shown_of (shape_of g) t g.found
 
--- the value of an EXCAS ends no earlier than it begins
-abbrev pub ActionAt : Action → (v : Span) → Type 0
-ActionAt (Excas a) v = v.start ≤ v.end
-ActionAt (Exset a) v = Unit {0}
-ActionAt (Exget w) v = Unit {0}
-ActionAt (Exsetver n) v = Unit {0}
-ActionAt (Exincrby a) v = Unit {0}
-ActionAt (Excad n) v = Unit {0}
-ActionAt (Exjoin a) v = Unit {0}
-ActionAt (Exgae e) v = Unit {0}
-ActionAt Del v = Unit {0}
+-- an EXCAS has a value
+abbrev pub ActionAt : Action → (ws : List (List ℕ)) → Type 0
+ActionAt (Excas a) ws = 2 < length ws
+ActionAt (Exset a) ws = Unit {0}
+ActionAt (Exget w) ws = Unit {0}
+ActionAt (Exsetver n) ws = Unit {0}
+ActionAt (Exincrby a) ws = Unit {0}
+ActionAt (Excad n) ws = Unit {0}
+ActionAt (Exjoin a) ws = Unit {0}
+ActionAt (Exgae e) ws = Unit {0}
+ActionAt Del ws = Unit {0}

@@ -1,16 +1,16 @@
 -- What the current value promises: the bytes that are given back, where they stand, and whether a value is shown. t and c are the borrowed
 -- table and command, r the part given back.
-use Rattle.std.specs.Prelude.{ℕ, ◌+◌, ◌≡◌, Bool, List}
+use Rattle.std.specs.Prelude.{ℕ, ◌+◌, ◌≡◌, Bool, List, Option, Some, None}
 use Rattle.std.specs.Borrow.{Bor}
 use Rattle.model.specs.CurrentValue.{Shown, nothing, in_table, in_command, is_shown, shown_bytes}
 use Rattle.current.specs.declared.Shown as code
-use Rattle.current.specs.declared.Shown.TheVariants.{Nothing, InTable, InCommand}
+use Rattle.current.specs.declared.Shown.TheVariants.{InTable, InCommand}
 
 -- the model's value of an answer
-abbrev pub model_shown : code.Shown → Shown
-model_shown Nothing = nothing
-model_shown (InTable a n) = in_table a n
-model_shown (InCommand a n) = in_command a n
+abbrev pub model_shown : Option code.Shown → Shown
+model_shown None = nothing
+model_shown (Some (InTable a n)) = in_table a n
+model_shown (Some (InCommand a n)) = in_command a n
 
 -- where a part begins, given where table and command begin: a block of memory and a place in it
 abbrev pub place_of : (table command : ℕ × ℕ) → Shown → ℕ × ℕ

@@ -1,22 +1,21 @@
 -- What a call at a time out of range tells of the table: it is refused by 1 where the table breaks a rule, and else by 2.
 use Prim.Native.Nat.{ℕ, ◌<◌}
-use native.Mathlib.Omega.{arith}
 use mathlib.Core.Path.{◌≡◌, refl}
 use mathlib.Core.Bool.{Bool, true, false, not}
-use mathlib.Core.List.{List, [], ◌∷◌}
+use mathlib.Core.List.{List}
 use lib.Dec.{eqb}
+use denote.Enum.Bare.{sameb}
 use borrow.Author.Tests.{lt-leb}
-use types.Run.{OneOf, miss}
-use denote.Enum.Declared.{tag_of}
 use Rattle.model.specs.Checked.{refuse}
 use Rattle.model.specs.Table.{form128, time_limit}
 use Rattle.model.specs.Gate.{gate}
+use Rattle.outcome.specs.Outcome.{number_of}
+use Rattle.outcome.specs.declared.Refusal.{Refusal}
+use Rattle.outcome.specs.contracts.Refusal.{the_type}
 use Rattle.integrity.specs.Check.{faultless}
 use Rattle.integrity.proofs.Verdict.{good-slots, not_good}
 use Rattle.entry.specs.declared.Query.{Query}
-use Rattle.entry.specs.declared.Prepared.{Prepared}
-use Rattle.entry.specs.Gated.{gate_in, Prepares}
-use Rattle.entry.specs.contracts.Prepared.{the_type}
+use Rattle.entry.specs.Gated.{gate_in}
 
 module _ (q : Query) (t c : List ℕ) (late : time_limit < q.time) where
   late-good : faultless form128 t ≡ true → gate_in q t c ≡ refuse 2
@@ -34,8 +33,23 @@ module _ (q : Query) (t c : List ℕ) (late : time_limit < q.time) where
       go true h = let same : n ≡ 2 = cc (e, late-good h) in rw same
       go false h = let same : n ≡ 1 = cc (e, late-bad h) in rw same
 
-  -- it is refused
-  pub late-refused : {X : Type 0} (places : List ℕ) (r : Prepared) → OneOf (1 ∷ 2 ∷ []) (tag_of the_type r) → Prepares q t c places r → X
-  late-refused places (Prepared.Refused n) o h = absurd (miss (1 ∷ 2 ∷ []) 0 tt o)
-  late-refused places (Prepared.Wrong n) o h = absurd (omega (arith, late, h.entered.time))
-  late-refused places (Prepared.Ready r) o h = absurd (omega (arith, late, h.entered.time))
+-- a table that breaks a rule is refused by a number of its own
+pub is-damaged : (r : Refusal) → sameb the_type r Refusal.Damaged ≡ eqb (number_of r) 1
+is-damaged Refusal.Damaged = refl
+is-damaged Refusal.Time = refl
+is-damaged Refusal.Room = refl
+is-damaged Refusal.Malformed = refl
+is-damaged Refusal.Unknown = refl
+is-damaged Refusal.Words = refl
+is-damaged Refusal.Size = refl
+is-damaged Refusal.Syntax = refl
+is-damaged Refusal.Number = refl
+is-damaged Refusal.Expiry = refl
+is-damaged Refusal.Bounds = refl
+is-damaged Refusal.Stale = refl
+is-damaged Refusal.Stored = refl
+is-damaged Refusal.Overflow = refl
+is-damaged Refusal.Version = refl
+is-damaged Refusal.Length = refl
+is-damaged Refusal.Full = refl
+is-damaged Refusal.Boundary = refl

@@ -1,46 +1,43 @@
 -- What the gate answers, by the tests that were passed.
 use Prim.Native.Nat.{ℕ, ◌≤◌, ◌<◌}
-use native.Mathlib.Omega.{arith}
-use mathlib.Core.Path.{◌≡◌, refl, sym, ap, ◌∙◌}
+use mathlib.Core.Path.{◌≡◌, refl, sym, subst}
 use mathlib.Core.Bool.{true, false, ◌&&◌}
 use mathlib.Core.List.{List, []}
 use mathlib.Core.Option.{Option, none, some, get_or}
-use lib.ListN.{length}
 use borrow.Author.Tests.{le-leb, lt-leb}
-use Rattle.model.specs.Checked.{Checked, refuse, ok, given, ◌>>=◌}
+use Rattle.std.specs.Prelude.{Result, Ok, Err}
+use Rattle.model.specs.Checked.{refuse, ok, given}
 use Rattle.model.specs.Optional.{is_some}
 use Rattle.model.specs.Table.{form128, Slot, time_limit, read_table, distinct}
 use Rattle.model.specs.Resp.{decode}
-use Rattle.model.specs.Gate.{Inputs, gate}
+use Rattle.model.specs.Gate.{gate}
 use Rattle.model.proofs.Calls.{through-gate}
+use Rattle.model.proofs.Words.{few_words}
+use Rattle.outcome.proofs.Cases.{clash}
+use Rattle.outcome.specs.Outcome.{checked, number_of}
+use Rattle.outcome.specs.declared.Refusal.{Refusal}
 use Rattle.table.specs.Slots.{slots_of}
 use Rattle.index.specs.Index.{Indexed}
 use Rattle.table.proofs.Records.{slots-of}
 use Rattle.integrity.specs.Check.{faultless}
 use Rattle.integrity.proofs.Verdict.{good-reads, good-keys}
-use Rattle.resp.specs.Spans.{words_of, checked_count, Split}
-use Rattle.resp.specs.declared.Count.{Count}
-use Rattle.resp.specs.declared.Count.TheVariants.{Words, Malformed}
-use Rattle.resp.proofs.Spans.{split-count}
 use Rattle.entry.specs.declared.Query.{Query}
-use Rattle.entry.specs.declared.Entry.{Entry}
-use Rattle.entry.specs.declared.Entry.TheVariants.{Passed, Refused}
-use Rattle.entry.specs.Gated.{checked_entry, gate_in, Gates}
+use Rattle.entry.specs.Gated.{gate_in, Entered, Gates}
 
--- a refusal is that of the first step
-refuses : {A B : Type 0} {n : ℕ} (x : Checked A) (g : A → B) → ◌≡◌ {A = Checked B} (refuse n) (x >>= λ a. ok (g a)) → x ≡ refuse n
-refuses (refuse m) g e = cc
-refuses (ok a) g e = let z : ◌≡◌ {A = ℕ} 0 1 = cc in absurd (omega arith)
+decoded : {A : Type 0} (o : Option A) {a : A} → given 4 o ≡ ok a → o ≡ some a
+decoded none e = clash cc
+decoded (some x) e = cc
 
-not-passed : {X : Type 0} {m n : ℕ} → Refused n ≡ Passed m → X
-not-passed z = let z : ◌≡◌ {A = ℕ} 0 1 = cc in absurd (omega arith)
-
-module _ {q : Query} {t c places heads next : List ℕ} where
-  refused : {n : ℕ} → gate_in q t c ≡ refuse n → Gates q t c places heads next (Refused n)
-  refused e = record { answer = rw e; passed = λ m z. not-passed z; index = λ m z. not-passed z }
+module _ {q : Query} {t c heads next : List ℕ} where
+  refused : {r : Refusal} → gate_in q t c ≡ refuse (number_of r) → Gates q t c heads next (Err r)
+  refused e = record {
+    answer = rw e;
+    passed = λ ws z. clash cc;
+    index = λ ws z. clash cc;
+  }
 
   -- a table that breaks a rule
-  pub faulty : faultless form128 t ≡ false → Gates q t c places heads next (Refused 1)
+  pub faulty : faultless form128 t ≡ false → Gates q t c heads next (Err Refusal.Damaged)
   unfolding gate slots_of
   faulty h = refused (go (read_table form128 t) refl h)
     where
@@ -49,43 +46,37 @@ module _ {q : Query} {t c places heads next : List ℕ} where
       go (some ss) e b = rw (e, b)
 
   module _ (good : faultless form128 t ≡ true) where
-    pub late : time_limit < q.time → Gates q t c places heads next (Refused 2)
+    pub late : time_limit < q.time → Gates q t c heads next (Err Refusal.Time)
     unfolding gate
     late h = refused (rw (slots-of form128 t (good-reads form128 t good), good-keys form128 t good, lt-leb q.time time_limit h))
 
     module _ (early : q.time ≤ time_limit) where
-      pub short : q.room < form128.reply_room → Gates q t c places heads next (Refused 3)
+      pub short : q.room < form128.reply_room → Gates q t c heads next (Err Refusal.Room)
       unfolding gate
       short h = refused (rw (slots-of form128 t (good-reads form128 t good), good-keys form128 t good, le-leb q.time time_limit early, lt-leb form128.reply_room q.room h))
 
-      module _ (room : form128.reply_room ≤ q.room) {r : Count} (split : Split c places r) where
-        pub malformed : r ≡ Malformed → Gates q t c places heads next (Refused 4)
+      module _ (room : form128.reply_room ≤ q.room) where
+        pub split-told : (r : Result (List (List ℕ)) Refusal) → checked (λ ws. ws) r ≡ given 4 (decode c) → Indexed form128 t 0 heads next → Gates q t c heads next r
         unfolding gate
-        malformed e =
-            let words = refuses (given 4 (decode c)) length (ap checked_count (sym e) ∙ split.count) in
-            refused (rw (slots-of form128 t (good-reads form128 t good), good-keys form128 t good, le-leb q.time time_limit early, le-leb form128.reply_room q.room room, words))
-
-        pub passed : {n : ℕ} → r ≡ Words n → Indexed form128 t 0 heads next → Gates q t c places heads next (Passed n)
-        passed {n} e x =
-            let splits = split.splits e in
-            let is = through-gate form128 t q.time q.room c (record { slots = slots_of form128 t; words = words_of c }) (record {
+        split-told (Err r) e x =
+            refused (rw (slots-of form128 t (good-reads form128 t good), good-keys form128 t good, le-leb q.time time_limit early, le-leb form128.reply_room q.room room, ← e))
+        split-told (Ok ws) e x =
+            let d = decoded (decode c) (sym e) in
+            let is = through-gate form128 t q.time q.room c (record { slots = slots_of form128 t; words = ws }) (record {
               table = record { read = slots-of form128 t (good-reads form128 t good); keys = good-keys form128 t good };
               time = early;
               buffer = room;
-              command = splits.decoded;
+              command = d;
             }) in
+            let here : Entered q t c ws = record {
+              is = is;
+              reads = good-reads form128 t good;
+              time = early;
+              room = room;
+              few = few_words c ws d;
+            } in
             record {
-              answer = rw is (ap {B = Checked ℕ} ok (split-count split e));
-              passed = λ m z. record {
-                is = is;
-                reads = good-reads form128 t good;
-                time = early;
-                room = room;
-                splits = splits;
-                count = let w : m ≡ n = cc in w ∙ split-count split e;
-              };
-              index = λ m z. x;
+              answer = rw is;
+              passed = λ vs z. let same : ws ≡ vs = cc in subst (Entered q t c) same here;
+              index = λ vs z. x;
             }
-
-pub gate-refused : (q : Query) (t c : List ℕ) {places heads next : List ℕ} {r : Entry} → Gates q t c places heads next r → {n : ℕ} → r ≡ Refused n → gate_in q t c ≡ refuse n
-gate-refused q t c g e = refuses (gate_in q t c) (λ (i : Inputs). length i.words) (ap checked_entry (sym e) ∙ g.answer)

@@ -26,13 +26,14 @@ use Rattle.live.specs.declared.Target.{Target}
 use Rattle.live.specs.declared.Lookup.{Lookup}
 use Rattle.live.specs.declared.Lookup.TheVariants.{Live, Expired, Absent}
 use Rattle.live.specs.Under.{model_lookup, SoundAt, Sound, shape_of}
-use Rattle.put.specs.declared.Stored.{Stored}
+use Rattle.std.specs.Prelude.{Result}
+use Rattle.outcome.specs.declared.Refusal.{Refusal}
 use Rattle.put.specs.Put.{put_in, Puts}
-use Rattle.bitfield.specs.Run.{stored_value, AllRunnable, LeavesAll}
+use Rattle.bitfield.specs.Run.{stored_value, LeavesAll}
 use Rattle.bitfield.specs.declared.Ran.{Ran}
 use Rattle.bitfield.proofs.Padded.{front}
-use Rattle.bitfield.proofs.Subcommands.{length-subs, all-end-more}
-use Rattle.execute.specs.Does.{fields_in, FieldsFit}
+use Rattle.bitfield.proofs.Subcommands.{length-subs, typed-subs, all-end-more}
+use Rattle.execute.specs.Does.{fields_in}
 use Rattle.write.proofs.Writing.{write_new}
 
 -- the buffer for a value has room for one of every form
@@ -52,12 +53,13 @@ module _ (t : List ℕ) (g : Target) (ss : Subs) where
   ran = run_subs (model_subs ss) (stored_value t g)
 
   -- one answer for each, of few bytes
-  pub answers-count : length (map result_scalar ran.results) ≡ ss.count
-  answers-count = length-map ran.results result_scalar ∙ (results-length (model_subs ss) (stored_value t g) ∙ length-subs ss)
+  module _ (full : length ss.list ≡ 4) where
+    pub answers-count : length (map result_scalar ran.results) ≡ ss.count
+    answers-count = length-map ran.results result_scalar ∙ (results-length (model_subs ss) (stored_value t g) ∙ length-subs ss full)
 
-  pub answers-size : FieldsFit ss → length (scalars_bytes (map result_scalar ran.results)) ≤ 92
-  answers-size h =
-      omega (arith, results-size ran.results (run_subs-signed (model_subs ss) (stored_value t g) h.typed), results-length (model_subs ss) (stored_value t g), length-subs ss, h.few)
+    pub answers-size : length (scalars_bytes (map result_scalar ran.results)) ≤ 92
+    answers-size =
+        omega (arith, results-size ran.results (run_subs-signed (model_subs ss) (stored_value t g) (typed-subs ss)), results-length (model_subs ss) (stored_value t g), length-subs ss full, ss.few)
 
   -- what BITFIELD does under a key
   pub ends-past : (k : List ℕ) → all_end_within (shape_of g).value_limit (model_subs ss) ≡ false → fields_in t g k ss ≡ refuse 16
@@ -72,17 +74,17 @@ module _ (t : List ℕ) (g : Target) (ss : Subs) where
       written q = rw (e, sym l.wrote ∙ q) (write_new t g k (swapping keep) none _ _ refl)
 
       -- the value that is put is the one they leave
-      pub puts-value : {after : List ℕ} {stored : Stored} → Puts (shape_of g) t after stored (put_in t g k (swapping keep) none (take r.len b))
+      pub puts-value : {after : List ℕ} {stored : Result ℕ Refusal} → Puts (shape_of g) t after stored (put_in t g k (swapping keep) none (take r.len b))
           → Puts (shape_of g) t after stored (put_in t g k (swapping keep) none ran.value)
       puts-value {after} {stored} = subst (λ (v : List ℕ). Puts (shape_of g) t after stored (put_in t g k (swapping keep) none v)) (front l.holds)
 
-    -- they may run in a buffer of 128 bytes
-    pub runnable : FieldsFit ss → AllRunnable 128 (model_subs ss)
-    runnable h = record { typed = h.typed; ends = all-end-more (shape_of g).value_limit 128 (model_subs ss) (limit-small g.form) e }
+    -- they end within a buffer of 128 bytes
+    pub end-within : all_end_within 128 (model_subs ss) ≡ true
+    end-within = all-end-more (shape_of g).value_limit 128 (model_subs ss) (limit-small g.form) e
 
     -- what they leave fits a record
-    pub value-fits : FieldsFit ss → Sound (shape_of g) t g.found → length ran.value ≤ (shape_of g).value_limit
-    value-fits h s = run_subs-within (shape_of g).value_limit (model_subs ss) (stored_value t g) h.typed e (stored-small (shape_of g) t g.found s.at)
+    pub value-fits : Sound (shape_of g) t g.found → length ran.value ≤ (shape_of g).value_limit
+    value-fits s = run_subs-within (shape_of g).value_limit (model_subs ss) (stored_value t g) (typed-subs ss) e (stored-small (shape_of g) t g.found s.at)
 
 -- ---- the parts of the two buffers
 

@@ -6,10 +6,12 @@ ghost use Rattle.model.specs.Call.{call};
 ghost use Rattle.feed.specs.Feeds.{Feeds, inputs};
 
 use assembler::Assembled;
+use outcome::Refusal;
 use reply::Answer;
 
 // What a piece comes to: no whole command yet, and so many bytes are held; or so many bytes of the piece are taken and this is the answer, and
 // nothing is held.
+// Kept: an enum, since neither is a failure: after both the caller goes on.
 #[derive(Clone, Copy)]
 pub enum Progress {
     More(usize),
@@ -30,7 +32,7 @@ pub fn feed(
 {
     match assembler::assemble(bytes, held, piece) {
         Assembled::More => Progress::More(held + piece.len()),
-        Assembled::Refused(n) => Progress::Answered(n, Answer { number: 4, len: 0 }),
+        Assembled::Refused(n) => Progress::Answered(n, Answer::silent(Refusal::Malformed)),
         Assembled::Whole(n) => {
             let command = assembler::command(bytes, held, piece, n);
             let answer = store::call(table, time, command, reply);

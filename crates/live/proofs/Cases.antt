@@ -3,6 +3,7 @@ use Prim.Native.Nat.{ℕ}
 use mathlib.Core.Path.{◌≡◌, refl, subst}
 use mathlib.Core.List.{List, [], ◌∷◌}
 use mathlib.Core.Option.{none}
+use borrow.Author.Rules.{rules}
 use denote.Enum.Declared.{tag_of}
 use types.Run.{OneOf, miss}
 use Rattle.model.specs.Checked.{Checked, ok}
@@ -20,6 +21,12 @@ use Rattle.live.specs.contracts.Lookup.{the_type}
 -- the search found an expired record or none
 abbrev pub NotLive : Lookup → Type 0
 NotLive l = OneOf (1 ∷ 2 ∷ []) (tag_of the_type l)
+
+-- as a `let .. else` says it
+pub not-live : (l : Lookup) → ((i : ℕ) (a : Attributes) → l ≡ Live i a → ⊥) → NotLive l
+not-live (Live i a) h = absurd (h i a refl)
+not-live (Expired i) h = search rules
+not-live Absent h = search rules
 
 module _ (f : Form) (t : List ℕ) where
   pub none-live : (l : Lookup) → NotLive l → live_record (model_lookup f t l) ≡ none

@@ -1,4 +1,3 @@
 pub mod Looking
-pub mod Writes
 pub mod Stored
 pub mod Cases

@@ -1,5 +1,6 @@
 -- What stands under a command's key, as the model has it.
-use Rattle.std.specs.Prelude.{ℕ, ◌≡◌, List, []}
+use Rattle.std.specs.Prelude as code
+use Rattle.std.specs.Prelude.{ℕ, ◌≡◌, List, [], Some, None}
 use Rattle.std.proofs.Math.Option.{Option, none, some}
 use Rattle.model.specs.Table.{Form, Record}
 use Rattle.model.specs.Search as model
@@ -44,6 +45,11 @@ abbrev pub stored_in : Lookup → Option Record
 stored_in (Live i a) = some (record_with [] [] a)
 stored_in (Expired i) = none
 stored_in Absent = none
+
+-- the same by the code's choice of attributes
+abbrev pub stored_of : code.Option Attributes → Option Record
+stored_of None = none
+stored_of (Some a) = some (record_with [] [] a)
 
 -- ---- the place of a command
 

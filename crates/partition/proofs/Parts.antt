@@ -3,7 +3,7 @@ use Prim.Native.Nat.{ℕ, ◌+◌, ◌-◌, ◌*◌, ◌/◌, ◌≤◌}
 use native.Mathlib.Nat.{sub-zero}
 use native.Mathlib.Omega.{arith}
 use mathlib.Core.Path.{◌≡◌, refl, sym, ap, ◌∙◌}
-use mathlib.Core.Bool.{true, false, ◌&&◌}
+use mathlib.Core.Bool.{Bool, true, false, cond, ◌&&◌}
 use mathlib.Core.List.{List, [], ◌∷◌, ◌++◌, append-nil}
 use mathlib.Core.Option.{Option, none, some, get_or}
 use lib.ListN.{length, take, drop, length-drop, drop_of_length-le}
@@ -23,7 +23,10 @@ use Rattle.integrity.specs.Check.{faultless}
 use Rattle.integrity.proofs.Passing.{wrong-length}
 use Rattle.integrity.proofs.Verdict.{good-slots, not_good}
 use Rattle.separation.proofs.Reading.{within-bytes, by_parts}
-use Rattle.partition.specs.Parts.{IsCut, start_in, end_in, IsPart}
+use Rattle.std.specs.Prelude.{Ok, Err}
+use Rattle.outcome.specs.declared.Refusal.TheVariants.{Damaged}
+use Rattle.partition.specs.declared.Part.{Part}
+use Rattle.partition.specs.Parts.{IsCut, start_in, end_in, IsPart, FindsBy}
 
 -- ---- the tests
 
@@ -55,6 +58,16 @@ module _ (f : Form) (n : ℕ) (t : List ℕ) where
 
       pub other-bad : faultless f (partition f (other p) n t) ≡ false → good_part f (shared_by p n) t ≡ refuse 1
       other-bad h = by_parts f n t c.size c.least c.most p ∙ ap left (not_good f (partition f (other p) n t) h)
+
+-- what the test of the other part gives
+module _ (f : Form) (n : ℕ) (t : List ℕ) {a : ℕ} (c : IsCut f n t a) (p : Party) (q : Part) where
+  pub found-beside : (s : List ℕ) → s ≡ partition f (other p) n t → q.start ≡ start_in f (shared_by p n) → q.end ≡ end_in f (shared_by p n) t
+      → q.start ≤ q.end → q.end ≤ length t → FindsBy f (shared_by p n) t (cond (faultless f s) (Ok q) (Err Damaged))
+  found-beside s e first end low high = go (faultless f s) refl
+    where
+      go : (b : Bool) → faultless f s ≡ b → FindsBy f (shared_by p n) t (cond b (Ok q) (Err Damaged))
+      go true h = record { start = first; end = end; low = low; high = high; tests = other-good f n t c p (ap (faultless f) (sym e) ∙ h) }
+      go false h = other-bad f n t c p (ap (faultless f) (sym e) ∙ h)
 
 -- a record as a table of its own
 pub record-alone : (b : List ℕ) → length b ≡ 128 → faultless form128 b ≡ is_some (read_slot form128 b)

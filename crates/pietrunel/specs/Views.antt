@@ -1,12 +1,14 @@
 -- Calls by the numbers with which C names a view. A number that names no party is refused as a damaged table is, by 1.
 use Rattle.std.specs.Prelude.{ℕ, cond, List, eqb}
+use Rattle.std.specs.Prelude.{Some, None}
+use Rattle.std.specs.Prelude.{Option as Choice}
 use Rattle.std.proofs.Math.Option.{Option, none, some}
 use Rattle.model.specs.Table.{form128}
 use Rattle.model.specs.Partition.{owner, installer, View, whole, shared_by}
 use Rattle.model.specs.Call.{Store, untouched, call_in}
 use Rattle.model.specs.CurrentValue.{Shown, nothing, current_value_in}
 use Rattle.partition.specs.Parts.{model_view}
-use Rattle.pietrunel.specs.declared.view.Named.{Named}
+use Rattle.partition.specs.declared.View as code
 
 -- 0 the whole table, 1 the owner, 2 the installer
 abbrev pub view_of : (party boundary : ℕ) → Option View
@@ -21,6 +23,6 @@ value_by none t now c = nothing
 value_by (some v) t now c = current_value_in form128 v t now c
 
 -- the model's view of an answer
-abbrev pub named_view : Named → Option View
-named_view (Named.View v) = some (model_view v)
-named_view Named.Unknown = none
+abbrev pub named_view : Choice code.View → Option View
+named_view (Some v) = some (model_view v)
+named_view None = none

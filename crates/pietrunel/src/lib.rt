@@ -1,4 +1,4 @@
-// The library's functions for C: a slice crosses as a pointer and a length.
+// The library's functions for C: a slice crosses as a pointer and a length. Kept: numbers, flags and what is told by `&mut`, since they are the C interface.
 #![tactic(auto)]
 
 mod view;
@@ -14,13 +14,10 @@ ghost use Rattle.pietrunel.specs.Located.{Located};
 ghost use Rattle.pietrunel.specs.Reports.{Reports};
 ghost use Rattle.pietrunel.specs.Views.{view_of, call_by, value_by};
 
-use crate::view::{Named, view_of};
+use crate::view::view_of;
 use current::Shown;
 use feed::Progress;
-use partition::Part;
-
-// The number of a damaged table.
-const DAMAGED: u32 = 1;
+use outcome::Refusal;
 
 // Given back where a command is not whole yet; no call of the store gives this number.
 const MORE: u32 = 100;
@@ -53,13 +50,13 @@ pub extern "C" fn pietrunel_current_value(
 ) -> bool
     ensures { Located (current_value form128 table.now time command.now) result inside.new start.new len.new }
 {
-    match current::locate(table, time, command) {
-        Shown::Nothing => {
-            *inside = false;
-            *start = 0;
-            *len = 0;
-            false
-        }
+    let Some(shown) = current::locate(table, time, command) else {
+        *inside = false;
+        *start = 0;
+        *len = 0;
+        return false;
+    };
+    match shown {
         Shown::InTable {
             start: from,
             len: count,
@@ -95,9 +92,9 @@ pub extern "C" fn pietrunel_shared_call(
 ) -> u32
     ensures { Called (call_by (view_of party boundary) table.old time command.now reply.old) (record { number = result; len = used.new }) table.new reply.new }
 {
-    let Named::View(view) = view_of(party, boundary) else {
+    let Some(view) = view_of(party, boundary) else {
         *used = 0;
-        return DAMAGED;
+        return Refusal::Damaged.number();
     };
     let done = shared::call(table, view, time, command, reply);
     *used = done.len;
@@ -121,16 +118,17 @@ pub extern "C" fn pietrunel_shared_current_value(
     *inside = false;
     *start = 0;
     *len = 0;
-    let Named::View(view) = view_of(party, boundary) else {
+    let Some(view) = view_of(party, boundary) else {
         return false;
     };
-    let Part::Bytes { start: first, end } = partition::part_in(table, view) else {
+    let Ok(part) = partition::part_in(table, view) else {
         return false;
     };
-    let shown = pietrunel_current_value(&table[first..end], time, command, inside, start, len);
+    let own = &table[part.start..part.end];
+    let shown = pietrunel_current_value(own, time, command, inside, start, len);
     let in_table = shown & !*inside;
     if in_table {
-        *start += first;
+        *start += part.start;
     }
     shown
 }
@@ -140,7 +138,7 @@ pub extern "C" fn pietrunel_shared_current_value(
 pub extern "C" fn pietrunel_begin_command(command: &mut [u8], words: usize) -> usize
     ensures { begin_in command.old words ≡ (command.new, result) }
 {
-    build::begin_command(command, words)
+    build::begin_command(command, words).unwrap_or(0)
 }
 
 // Adds a word to the command that the first `len` bytes of a buffer begin: its length then; where it is refused, 0, and nothing is changed.
@@ -148,7 +146,7 @@ pub extern "C" fn pietrunel_begin_command(command: &mut [u8], words: usize) -> u
 pub extern "C" fn pietrunel_add_word(command: &mut [u8], len: usize, word: &[u8]) -> usize
     ensures { add_word_in command.old len word.now ≡ (command.new, result) }
 {
-    build::add_word(command, len, word)
+    build::add_word(command, len, word).unwrap_or(0)
 }
 
 // Takes a piece of a command, behind the first `held` bytes of an assembler; a command that it makes whole is applied to a table.

@@ -4,27 +4,17 @@ ghost use Rattle.pietrunel.specs.Views.{view_of, named_view};
 
 use partition::{Party, View};
 
-// The view that numbers name, or that they name none.
-#[derive(Clone, Copy)]
-pub enum Named {
-    View(View),
-    Unknown,
-}
-
-// The view of a party: 0 the whole table, 1 the owner, 2 the installer.
-pub fn view_of(party: u32, boundary: usize) -> Named
+// The view of a party: 0 the whole table, 1 the owner, 2 the installer; none for another number.
+pub fn view_of(party: u32, boundary: usize) -> Option<View>
     ensures { named_view result ≡ view_of party boundary }
 {
-    let named = match party {
+    let party = match party {
         0 => Party::Whole,
         1 => Party::Owner,
         2 => Party::Installer,
         _ => {
-            return Named::Unknown;
+            return None;
         }
     };
-    Named::View(View {
-        party: named,
-        boundary,
-    })
+    Some(View { party, boundary })
 }

@@ -19,7 +19,7 @@ use Rattle.live.specs.declared.Lookup.{Lookup}
 use Rattle.live.specs.declared.Lookup.TheVariants.{Live}
 use Rattle.live.specs.declared.Target.{Target}
 use Rattle.live.specs.Under.{IsUnder, LiveAt, SoundAt, model_lookup, shape_of, slot_in}
-use Rattle.put.specs.declared.Stored.TheVariants.{Version}
+use Rattle.std.specs.Prelude.{Ok}
 use Rattle.put.specs.Put.{attributes_after, is_front, put_in, value_in, Puts}
 use Rattle.put.proofs.Putting.{puts-stored}
 
@@ -65,7 +65,7 @@ module _ (t : List ℕ) (g : Target) (i : ℕ) (a : Attributes) (here : g.found 
       → put_in t g k m none (joined e v (value_in t g)) ≡ ok (record { at = i; rec = record_with k (joined e v (value_in t g)) (attributes_after g.found n m.expire none) })
       → (b : Attributes) → b ≡ attributes_after (Live i a) n m.expire none → (x : Bool) → x ≡ is_front e
       → after ≡ with_slot (shape_of g) t i (used (joined_record x v b (record_in (shape_of g) t i)))
-      → Puts (shape_of g) t after (Version n) (put_in t g k m none (joined e v (value_in t g)))
+      → Puts (shape_of g) t after (Ok n) (put_in t g k m none (joined e v (value_in t g)))
   puts-joined after k h m e v n p b hb x hf is =
       puts-stored t after g k m none (joined e v (value_in t g)) n i b (hb ∙ ap (λ (l : Lookup). attributes_after l n m.expire none) (sym here)) p
       (is ∙ ap (λ (r : Record). with_slot (shape_of g) t i (used r)) (ap (λ (x : Bool). joined_record x v b (record_in (shape_of g) t i)) hf ∙ joined-live k h e v b))

@@ -1,11 +1,14 @@
 -- What is put under a key, test by test, and what storing it promises.
 use Prim.Native.Nat.{ℕ, ◌≤◌, ◌<◌}
-use native.Mathlib.Omega.{arith}
 use mathlib.Core.Path.{◌≡◌, refl, sym, ap, ◌∙◌, subst}
 use mathlib.Core.List.{List}
 use mathlib.Core.Option.{Option, none, some}
 use lib.ListN.{length}
 use borrow.Author.Tests.{le-leb, lt-leb}
+use Rattle.std.specs.Prelude.{Result, Ok, Err}
+use Rattle.outcome.proofs.Cases.{clash}
+use Rattle.outcome.specs.declared.Refusal.{Refusal}
+use Rattle.outcome.specs.Outcome.{number_of}
 use Rattle.model.specs.Checked.{Checked, refuse, ok, given}
 use Rattle.model.specs.Table.{Form, used}
 use Rattle.model.specs.Search.{Placed, live_record, free_slot, slot_for}
@@ -21,7 +24,6 @@ use Rattle.live.specs.declared.Lookup.TheVariants.{Live, Expired, Absent}
 use Rattle.live.specs.declared.Target.{Target}
 use Rattle.live.specs.Under.{SoundAt, stored_in, shape_of, slot_in, model_lookup}
 use Rattle.live.proofs.Stored.{version-stored, flags-stored, expiry-stored}
-use Rattle.put.specs.declared.Stored.TheVariants.{Version, Refused}
 use Rattle.put.specs.Put.{attributes_after, put_in, Puts}
 
 module _ (t : List ℕ) (g : Target) (k : List ℕ) (m : Terms) (fl : Option ℕ) (v : List ℕ) where
@@ -48,15 +50,15 @@ module _ (t : List ℕ) (g : Target) (k : List ℕ) (m : Terms) (fl : Option ℕ
       put-at s = rw (version-at e, le-leb _ _ l, s, flags-stored (shape_of g) t g.found fl, expiry-stored (shape_of g) t g.found m.expire)
 
 -- a refusal leaves the table
-pub puts-refused : (f : Form) (t : List ℕ) (x : Checked Placed) (n : ℕ) → x ≡ refuse n → Puts f t t (Refused n) x
-puts-refused f t x n e = subst (Puts f t t (Refused n)) (sym e) (record { stored = refl; table = refl })
+pub puts-refused : (f : Form) (t : List ℕ) (x : Checked Placed) (r : Refusal) → x ≡ refuse (number_of r) → {a : Result ℕ Refusal} → a ≡ Err r → Puts f t t a x
+puts-refused f t x r e h = subst (λ (a : Result ℕ Refusal). Puts f t t a x) (sym h) (subst (Puts f t t (Err r)) (sym e) (record { stored = refl; table = refl }))
 
 -- a record stored with the attributes after a write
 pub puts-stored : (t after : List ℕ) (g : Target) (k : List ℕ) (m : Terms) (fl : Option ℕ) (v : List ℕ) (n i : ℕ) (a : Attributes)
     → a ≡ attributes_after g.found n m.expire fl → put_in t g k m fl v ≡ ok (record { at = i; rec = record_with k v (attributes_after g.found n m.expire fl) })
-    → after ≡ with_slot (shape_of g) t i (used (record_with k v a)) → Puts (shape_of g) t after (Version n) (put_in t g k m fl v)
+    → after ≡ with_slot (shape_of g) t i (used (record_with k v a)) → Puts (shape_of g) t after (Ok n) (put_in t g k m fl v)
 puts-stored t after g k m fl v n i a ha e h =
-    subst (Puts (shape_of g) t after (Version n)) (sym e)
+    subst (Puts (shape_of g) t after (Ok n)) (sym e)
     (record { stored = refl; table = h ∙ ap (λ (a : Attributes). with_slot (shape_of g) t i (used (record_with k v a))) ha })
 
 -- the slot that a write takes is one of the table's
@@ -67,7 +69,7 @@ slot-within t g i h e = go g.found h e
     same e = cc
 
     free : (o : Option ℕ) → given 17 o ≡ ok i → some i ≡ o
-    free none e = let z : ◌≡◌ {A = ℕ} 0 1 = cc in absurd (omega arith)
+    free none e = clash cc
     free (some j) e = ap some (sym (same e))
 
     go : (l : Lookup) → SoundAt (shape_of g) t l → given 17 (slot_for g.time (slots_of (shape_of g) t) (model_lookup (shape_of g) t l)) ≡ ok i → i < length (slots_of (shape_of g) t)

@@ -3,6 +3,7 @@
 
 ghost use Rattle.std.specs.Prelude.{◌≤◌, ◌≡◌, length};
 ghost use Rattle.std.proofs.Math.Option.{none};
+ghost use Rattle.outcome.specs.Outcome.{to_model, checked};
 ghost use Rattle.model.specs.Checked.{given};
 ghost use Rattle.model.specs.Number.{int_text};
 ghost use Rattle.model.specs.Table.{key_limit};
@@ -10,127 +11,110 @@ ghost use Rattle.model.specs.Execute.{joined};
 ghost use Rattle.command.specs.Command.{model_expire, model_terms, model_end};
 ghost use Rattle.table.specs.Slots.{Reads};
 ghost use Rattle.live.specs.Under.{Sound, IsUnder, shape_of, slot_in};
-ghost use Rattle.live.specs.After.{model_flags};
-ghost use Rattle.put.specs.Put.{checked_slot, attributes_after, is_front, put_in, value_in, Puts};
+ghost use Rattle.put.specs.Put.{attributes_after, is_front, put_in, value_in, Puts};
 
 use command::{End, Expire, Join, Terms};
-use live::{Flags, Lookup, Target, Version};
+use live::{Lookup, Target};
+use outcome::Refusal;
 use record::Attributes;
-use table::Found;
-
-// The version that was stored, or document 01's number of the refusal.
-#[derive(Clone, Copy)]
-pub enum Stored {
-    Version(u64),
-    Refused(u32),
-}
 
 // The slot that a write takes: that of the record under the key, live or expired, else a free one.
-fn place(table: &[u8], target: Target) -> Found
+fn place(table: &[u8], target: Target) -> Result<usize, Refusal>
     requires { Reads (shape_of target) table.now }
-    ensures { checked_slot result ≡ given 17 (slot_in table.now target) }
+    ensures { checked (λ i. i) result ≡ given 17 (slot_in table.now target) }
 {
-    let found = target.found;
-    let form = target.form;
-    match found {
-        Lookup::Live {
-            slot,
-            attributes: _,
-        } => Found::At(slot),
-        Lookup::Expired { slot } => Found::At(slot),
-        Lookup::Absent => table::free_slot(table, form, target.time),
+    match target.found {
+        Lookup::Live { slot, .. } => Ok(slot),
+        Lookup::Expired { slot } => Ok(slot),
+        Lookup::Absent => table::free_slot(table, target.form, target.time).ok_or(Refusal::Full),
     }
 }
 
 // The attributes of a record that is written with a version.
-fn attributes_after(found: Lookup, version: u64, expire: Expire, flags: Flags) -> Attributes
-    ensures { result ≡ attributes_after found version (model_expire expire) (model_flags flags) }
+fn attributes_after(found: Lookup, version: u64, expire: Expire, flags: Option<u32>) -> Attributes
+    ensures { result ≡ attributes_after found version (model_expire expire) (to_model flags) }
 {
-    let stored = live::flags_after(found, flags);
-    let expiry = live::expiry_after(found, expire);
     Attributes {
-        flags: stored,
+        flags: live::flags_after(found, flags),
         version,
-        expiry,
+        expiry: live::expiry_after(found, expire),
     }
 }
 
-// Stores a record with the value under the key, all its bytes afresh.
+// Stores a record with the value under the key, all its bytes afresh, and gives back its version.
 pub fn store_value(
     table: &mut [u8],
     target: Target,
     key: &[u8],
     value: &[u8],
     terms: Terms,
-    flags: Flags,
-) -> Stored
+    flags: Option<u32>,
+) -> Result<u64, Refusal>
     requires sound { Sound (shape_of target) table.old target.found }
     requires key_len_bound { (length key.now ≤ key_limit) × (length value.now ≤ (shape_of target).value_limit) }
-    ensures { Puts (shape_of target) table.old table.new result (put_in table.old target key.now (model_terms terms) (model_flags flags) value.now) }
+    ensures { Puts (shape_of target) table.old table.new result (put_in table.old target key.now (model_terms terms) (to_model flags) value.now) }
 {
-    let found = target.found;
-    let form = target.form;
-    let change = terms.change;
-    let expire = terms.expire;
-    let Version::Value(version) = live::version_after(found, change) else {
-        return Stored::Refused(15);
-    };
-    let Found::At(slot) = place(table, target) else {
-        return Stored::Refused(17);
-    };
-    let attributes = attributes_after(found, version, expire, flags);
-    table::store(table, form, slot, key, value, attributes);
-    Stored::Version(version)
+    let version = live::version_after(target.found, terms.change)?;
+    let slot = place(table, target)?;
+    let attributes = attributes_after(target.found, version, terms.expire, flags);
+    table::store(table, target.form, slot, key, value, attributes);
+    Ok(version)
 }
 
 // Stores a record with the text of a number under the key.
-pub fn store_number(table: &mut [u8], target: Target, key: &[u8], z: i64, terms: Terms) -> Stored
+pub fn store_number(
+    table: &mut [u8],
+    target: Target,
+    key: &[u8],
+    z: i64,
+    terms: Terms,
+) -> Result<u64, Refusal>
     requires sound { Sound (shape_of target) table.old target.found }
     requires key_len_bound { length key.now ≤ key_limit }
     ensures { Puts (shape_of target) table.old table.new result (put_in table.old target key.now (model_terms terms) none (int_text z)) }
 {
     let mut text = [0u8; 20];
     let len = number::write_signed(&mut text, 0, z);
-    store_value(table, target, key, &text[..len], terms, Flags::Keep)
+    store_value(table, target, key, &text[..len], terms, None)
 }
 
 // Whether a text is joined at the front.
 fn at_front(end: End) -> bool
     ensures { result ≡ is_front (model_end end) }
 {
-    match end {
-        End::Back => false,
-        End::Front => true,
-    }
+    matches!(end, End::Front)
 }
 
 // Joins a text to the live record's value, in place; under an absent key it is the value of a new record.
-pub fn join_value(table: &mut [u8], target: Target, key: &[u8], value: &[u8], join: Join) -> Stored
+pub fn join_value(
+    table: &mut [u8],
+    target: Target,
+    key: &[u8],
+    value: &[u8],
+    join: Join,
+) -> Result<u64, Refusal>
     requires under { IsUnder (shape_of target) table.old target.time key.now target.found }
     requires key_len_bound { (length key.now ≤ key_limit) × (length value.now ≤ (shape_of target).value_limit) }
     ensures { Puts (shape_of target) table.old table.new result (put_in table.old target key.now (model_terms join.terms) none (joined (model_end join.end) value.now (value_in table.old target))) }
 {
     let found = target.found;
-    let form = target.form;
     let terms = join.terms;
-    let change = terms.change;
-    let expire = terms.expire;
-    let end = join.end;
-    let Lookup::Live {
-        slot,
-        attributes: _,
-    } = found
-    else {
-        return store_value(table, target, key, value, terms, Flags::Keep);
+    let Lookup::Live { slot, .. } = found else {
+        return store_value(table, target, key, value, terms, None);
     };
-    let Version::Value(version) = live::version_after(found, change) else {
-        return Stored::Refused(15);
-    };
-    let old = record::value(table::record_at(table, form, slot));
-    if record::limit(form) < old.len() + value.len() {
-        return Stored::Refused(16);
+    let version = live::version_after(found, terms.change)?;
+    let old = record::value(table::record_at(table, target.form, slot));
+    if record::limit(target.form) < old.len() + value.len() {
+        return Err(Refusal::Length);
     }
-    let attributes = attributes_after(found, version, expire, Flags::Keep);
-    table::join(table, form, slot, value, at_front(end), attributes);
-    Stored::Version(version)
+    let attributes = attributes_after(found, version, terms.expire, None);
+    table::join(
+        table,
+        target.form,
+        slot,
+        value,
+        at_front(join.end),
+        attributes,
+    );
+    Ok(version)
 }

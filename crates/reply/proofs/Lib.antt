@@ -1,6 +1,5 @@
--- Laws of replies written piece by piece, of the texts of the error replies, of the room that a reply asks,
+-- Laws of replies written piece by piece, of the room that a reply asks,
 -- and of an answer as an outcome of the model.
 pub mod Writing
-pub mod Messages
 pub mod Room
 pub mod Outcomes

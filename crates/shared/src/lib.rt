@@ -8,7 +8,7 @@ ghost use Rattle.partition.specs.Parts.{model_view};
 ghost use Rattle.current.specs.Shows.{Shows};
 ghost use Rattle.store.specs.Called.{Called};
 
-use partition::{Part, View};
+use partition::View;
 use reply::Answer;
 
 // Applies one command to the caller's part of a table: the number, the reply's length, the reply and the changed table.
@@ -16,13 +16,13 @@ pub fn call(table: &mut [u8], view: View, time: u64, command: &[u8], reply: &mut
     ensures { Called (call_in form128 (model_view view) table.old time command.now reply.old) result table.new reply.new }
 {
     match partition::part_in(table, view) {
-        Part::Refused(number) => Answer { number, len: 0 },
-        Part::Bytes { start, end } => { store::call(&mut table[start..end], time, command, reply) }
+        Err(refusal) => Answer::silent(refusal),
+        Ok(part) => store::call(&mut table[part.start..part.end], time, command, reply),
     }
 }
 
 // The value at the key of the caller's part after an EXGET or EXCAS, as a part of the command or of the table. Where none is shown, the table's
-// first zero bytes.
+// first zero bytes. Kept: `shown` beside the part, since document 01 asks for that part too.
 pub fn current_value<'a>(
     table: &'a [u8],
     view: View,
@@ -32,11 +32,12 @@ pub fn current_value<'a>(
 ) -> &'a [u8]
     ensures { Shows table.entry command.entry (current_value_in form128 (model_view view) table.now time command.now) result shown.new }
 {
-    let Part::Bytes { start, end } = partition::part_in(table, view) else {
+    let Ok(part) = partition::part_in(table, view) else {
         *shown = false;
         return &table[..0];
     };
-    let value = current::current_value(&table[start..end], time, command, shown);
+    let own = &table[part.start..part.end];
+    let value = current::current_value(own, time, command, shown);
     if *shown {
         return value;
     }

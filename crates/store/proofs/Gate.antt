@@ -29,7 +29,7 @@ module _ (q : Query) (t c : List ℕ) {b : List ℕ} (room : q.room ≡ length b
   unfolding call_in
   called-refused e = called (rw (← room, e))
 
-  pub called-passed : {places : List ℕ} {n : ℕ} → Entered q t c places n → {new : Held} {a : Answer} → Runs q c (held t b) new a
+  pub called-passed : {ws : List (List ℕ)} → Entered q t c ws → {new : Held} {a : Answer} → Runs q ws (held t b) new a
       → Called (call form128 t q.time c b) a new.table new.reply
   unfolding call_in
   called-passed p d = called (rw (← room, p.is) d.outcome)

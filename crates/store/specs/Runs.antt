@@ -5,7 +5,6 @@ use Rattle.model.specs.Table.{form128}
 use Rattle.model.specs.Parse.{word_at, parse}
 use Rattle.model.specs.Execute.{Effect, execute}
 use Rattle.table.specs.Slots.{slots_of}
-use Rattle.resp.specs.Spans.{words_of}
 use Rattle.command.specs.Command.{checked_task}
 use Rattle.command.specs.declared.Task.{Task}
 use Rattle.live.specs.declared.Target.{Target}
@@ -14,17 +13,17 @@ use Rattle.reply.specs.declared.Answer.{Answer}
 use Rattle.entry.specs.declared.Query.{Query}
 use Rattle.execute.specs.Does.{Held, Room, Does}
 
--- what a task of a command's words asks of its target and of the buffer
-pub record CanRun (g : Target) (k : Task) (c : List ℕ) (old : Held) : Type 0 where
-  pub parsed : checked_task (words_of c) k ≡ parse (shape_of g) g.time (words_of c)
-  pub under : IsUnder (shape_of g) old.table g.time (word_at 1 (words_of c)) g.found
+-- what a task of the words ws asks of its target and of the buffer
+pub record CanRun (g : Target) (k : Task) (ws : List (List ℕ)) (old : Held) : Type 0 where
+  pub parsed : checked_task ws k ≡ parse (shape_of g) g.time ws
+  pub under : IsUnder (shape_of g) old.table g.time (word_at 1 ws) g.found
   pub room : Room (shape_of g) old.reply
 
--- what a task of a command's words does to the table t
-abbrev pub effect_in : Target → Task → (t c : List ℕ) → Checked Effect
-effect_in g k t c = checked_task (words_of c) k >>= execute (shape_of g) g.time (slots_of (shape_of g) t)
+-- what a task of the words ws does to the table t
+abbrev pub effect_in : Target → Task → (t : List ℕ) → (ws : List (List ℕ)) → Checked Effect
+effect_in g k t ws = checked_task ws k >>= execute (shape_of g) g.time (slots_of (shape_of g) t)
 
--- the answer a and the bytes, from `old` to `new`, are those of the command c after the gate
-abbrev pub Runs : Query → (c : List ℕ) → (old new : Held) → Answer → Type 0
-Runs q c old new a =
-    Does form128 old new (parse form128 q.time (words_of c) >>= execute form128 q.time (slots_of form128 old.table)) a
+-- the answer a and the bytes, from `old` to `new`, are those of the words ws after the gate
+abbrev pub Runs : Query → (ws : List (List ℕ)) → (old new : Held) → Answer → Type 0
+Runs q ws old new a =
+    Does form128 old new (parse form128 q.time ws >>= execute form128 q.time (slots_of form128 old.table)) a

@@ -36,9 +36,10 @@ use Rattle.live.specs.declared.Target.{Target}
 use Rattle.live.specs.Under.{model_lookup, stored_in, shape_of, lookup_in, slot_in}
 use Rattle.live.specs.After.{admitted}
 use Rattle.live.proofs.Stored.{admit-stored}
-use Rattle.put.specs.declared.Stored.{Stored}
-use Rattle.put.specs.declared.Stored.TheVariants.{Version, Refused}
-use Rattle.put.specs.Put.{checked_stored, put_in, value_in, table_after, Puts}
+use Rattle.std.specs.Prelude.{Result, Ok, Err}
+use Rattle.outcome.specs.declared.Refusal.{Refusal}
+use Rattle.outcome.specs.Outcome.{number_of, checked}
+use Rattle.put.specs.Put.{put_in, value_in, table_after, Puts}
 use Rattle.reply.specs.declared.Answer.{Answer}
 use Rattle.reply.specs.Replied.{Replied}
 use Rattle.write.specs.Does.{Held, held, SomeRoom, Ready, act_in, Does}
@@ -63,19 +64,19 @@ stored_is (refuse m) n e = let z : ◌≡◌ {A = ℕ} 0 1 = cc in absurd (omega
 stored_is (ok p) n e = record { what = p; is = refl; version = cc }
 
 -- what was put has a version in range, or was refused by a number with an error reply
-pub stored_ok : (x : Checked Placed) → Comes Executing (λ (p : Placed). p.rec.version < version_limit) x → (r : Stored)
-    → checked_stored r ≡ (x >>= λ (p : Placed). ok p.rec.version) → StoredOk r
-stored_ok x h (Refused n) e = let q = subst (Comes Executing (λ (p : Placed). p.rec.version < version_limit)) (refused-is x n e) h in (omega (arith, q.least), q.most)
-stored_ok x h (Version n) e =
+pub stored_ok : (x : Checked Placed) → Comes Executing (λ (p : Placed). p.rec.version < version_limit) x → (r : Result ℕ Refusal)
+    → checked (λ n. n) r ≡ (x >>= λ (p : Placed). ok p.rec.version) → StoredOk r
+stored_ok x h (Err r) e = let q = subst (Comes Executing (λ (p : Placed). p.rec.version < version_limit)) (refused-is x (number_of r) e) h in (omega (arith, q.least), q.most)
+stored_ok x h (Ok n) e =
     let w = stored_is x n e in
     subst (λ (m : ℕ). m < version_limit) w.version (subst (Comes Executing (λ (p : Placed). p.rec.version < version_limit)) w.is h)
 
-puts-ok : (t : List ℕ) (g : Target) (k : List ℕ) (m : Terms) (fl : Option ℕ) (v : List ℕ) → ChangeOk m.change → (after : List ℕ) (r : Stored)
+puts-ok : (t : List ℕ) (g : Target) (k : List ℕ) (m : Terms) (fl : Option ℕ) (v : List ℕ) → ChangeOk m.change → (after : List ℕ) (r : Result ℕ Refusal)
     → Puts (shape_of g) t after r (put_in t g k m fl v) → StoredOk r
 puts-ok t g k m fl v h after r p = stored_ok (put_in t g k m fl v) (put-version (shape_of g) k (lookup_in t g) (slot_in t g) m fl v h) r p.stored
 
 -- what answering by it asks
-pub finish-in : {g : Target} {k : List ℕ} {old : Held} → Ready g k old → (m : Terms) (fl : Option ℕ) (v : List ℕ) → ChangeOk m.change → {after : List ℕ} {r : Stored}
+pub finish-in : {g : Target} {k : List ℕ} {old : Held} → Ready g k old → (m : Terms) (fl : Option ℕ) (v : List ℕ) → ChangeOk m.change → {after : List ℕ} {r : Result ℕ Refusal}
     → Puts (shape_of g) old.table after r (put_in old.table g k m fl v) → SomeRoom old.reply × StoredOk r
 finish-in {g} {k} {old} h m fl v c p = (record { form = _; room = h.room }, puts-ok old.table g k m fl v c _ _ p)
 
@@ -143,23 +144,23 @@ module _ {r : Admission} {w x : Checked Effect} (h : LetBy r w x) {f : Form} {ol
   turned-stale t e = does-refuse f t old new x a (h.by e)
 
   pub granted : (t after : List ℕ) → r ≡ Granted → {p : Checked Placed} {reply : ℕ → Reply} → w ≡ (p >>= λ (p : Placed). ok (storing reply p))
-      → {stored : Stored} → Puts f t after stored p → Finishes old new stored reply a → Does f (held t old) (held after new) x a
+      → {stored : Result ℕ Refusal} → Puts f t after stored p → Finishes old new stored reply a → Does f (held t old) (held after new) x a
   granted t after e n p q = does-as (h.by e ∙ n) (q.does f t after _ p)
 
 -- ---- the answer to what was put
 
-module _ {old new : List ℕ} {a : Answer} {n : ℕ} where
-  pub finishes-refused : {reply : ℕ → Reply} → Replied n (error_reply n) old new a → Finishes old new (Refused n) reply a
-  finishes-refused {reply} h =
+module _ {old new : List ℕ} {a : Answer} where
+  pub finishes-refused : (r : Refusal) {reply : ℕ → Reply} → Replied (number_of r) (error_reply (number_of r)) old new a → Finishes old new (Err r) reply a
+  finishes-refused r {reply} h =
       record {
         does = λ f t after x p.
             subst (λ (u : List ℕ). Does f (held t old) (held u new) (x >>= λ (p : Placed). ok (storing reply p)) a)
-            (sym (p.table ∙ ap (table_after f t) (refused-is x n p.stored)))
-            (does-refuse f t old new _ a (ap (λ (y : Checked Placed). y >>= λ (p : Placed). ok (storing reply p)) (refused-is x n p.stored)) h);
+            (sym (p.table ∙ ap (table_after f t) (refused-is x (number_of r) p.stored)))
+            (does-refuse f t old new _ a (ap (λ (y : Checked Placed). y >>= λ (p : Placed). ok (storing reply p)) (refused-is x (number_of r) p.stored)) h);
       }
 
-  pub finishes-stored : (reply : ℕ → Reply) → Replied 0 (reply n) old new a → Finishes old new (Version n) reply a
-  finishes-stored reply h =
+  pub finishes-stored : {n : ℕ} (reply : ℕ → Reply) → Replied 0 (reply n) old new a → Finishes old new (Ok n) reply a
+  finishes-stored {n} reply h =
       record {
         does = λ f t after x p.
             let w = stored_is x n p.stored in

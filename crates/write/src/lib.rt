@@ -8,19 +8,19 @@ ghost use Rattle.model.proofs.Commands.{ChangeOk};
 ghost use Rattle.command.specs.Command.{model_increment, model_change};
 ghost use Rattle.command.specs.declared.Action.TheVariants as ActionOf;
 ghost use Rattle.live.specs.Under.{Sound, shape_of};
-ghost use Rattle.count.specs.Counted.{checked_counted};
+ghost use Rattle.outcome.specs.Outcome.{checked};
 ghost use Rattle.put.specs.Put.{value_in};
 ghost use Rattle.reply.specs.Replied.{Replied};
 ghost use Rattle.write.specs.Does.{SomeRoom, Ready, held, act_in, Does};
 ghost use Rattle.write.specs.Finish.{reply_of, StoredOk, Finishes};
 
 use command::{Change, Increment, Join, Presence, Set, Swap, Terms};
-use count::Counted;
-use live::{Admission, Flags, Lookup, Target};
-use put::Stored;
+use live::{Admission, Lookup, Target};
+use outcome::Refusal;
 use reply::Answer;
 
 // How a command answers once its value is stored. The flag says whether WITHVERSION is given.
+// Kept: with a closure in its place, `finish` would have to ask of the closure what each reply promises.
 #[derive(Clone, Copy)]
 enum Success {
     // EXSET
@@ -47,13 +47,13 @@ fn reply_success(reply: &mut [u8], success: Success, version: u64) -> Answer
 }
 
 // Answers a command whose value was stored or refused.
-fn finish(stored: Stored, success: Success, reply: &mut [u8]) -> Answer
+fn finish(stored: Result<u64, Refusal>, success: Success, reply: &mut [u8]) -> Answer
     requires { SomeRoom reply.old × StoredOk stored }
     ensures { Finishes reply.old reply.new stored (reply_of success) result }
 {
     match stored {
-        Stored::Refused(number) => reply::error(reply, number),
-        Stored::Version(version) => reply_success(reply, success, version),
+        Ok(version) => reply_success(reply, success, version),
+        Err(refusal) => reply::error(reply, refusal),
     }
 }
 
@@ -70,34 +70,26 @@ pub fn exset(
     requires value_len_bound { (length value.now ≤ (shape_of target).value_limit) × ChangeOk (model_change set.terms.change) }
     ensures { Does (shape_of target) (held table.old reply.old) (held table.new reply.new) (act_in table.old target key.now value.now (ActionOf.Exset set)) result }
 {
-    let found = target.found;
     let terms = set.terms;
-    match live::admit(found, terms) {
+    match live::admit(target.found, terms) {
         Admission::Nil => reply::nil(reply),
-        Admission::Stale => reply::error(reply, 12),
+        Admission::Stale => reply::error(reply, Refusal::Stale),
         Admission::Granted => {
-            let flags = Flags::Set(set.flags);
-            let stored = put::store_value(table, target, key, value, terms, flags);
+            let stored = put::store_value(table, target, key, value, terms, Some(set.flags));
             finish(stored, Success::Set(set.with_version), reply)
         }
     }
 }
 
 // What EXINCRBY comes to: the sum of the number stored, 0 under an absent key, and the one given.
-fn total(table: &[u8], target: Target, increment: Increment) -> Counted
+fn total(table: &[u8], target: Target, increment: Increment) -> Result<i64, Refusal>
     requires { Sound (shape_of target) table.now target.found }
-    ensures { checked_counted result ≡ total (model_increment increment) (value_in table.now target) }
+    ensures { checked (λ z. z) result ≡ total (model_increment increment) (value_in table.now target) }
 {
-    let found = target.found;
-    let form = target.form;
-    let Lookup::Live {
-        slot,
-        attributes: _,
-    } = found
-    else {
+    let Lookup::Live { slot, .. } = target.found else {
         return count::sum_absent(increment);
     };
-    let text = record::value(table::record_at(table, form, slot));
+    let text = record::value(table::record_at(table, target.form, slot));
     count::sum_text(increment, text)
 }
 
@@ -113,14 +105,13 @@ pub fn exincrby(
     requires change_ok { ChangeOk (model_change increment.terms.change) }
     ensures { Does (shape_of target) (held table.old reply.old) (held table.new reply.new) (act_in table.old target key.now [] (ActionOf.Exincrby increment)) result }
 {
-    let found = target.found;
     let terms = increment.terms;
-    match live::admit(found, terms) {
+    match live::admit(target.found, terms) {
         Admission::Nil => reply::nil(reply),
-        Admission::Stale => reply::error(reply, 12),
+        Admission::Stale => reply::error(reply, Refusal::Stale),
         Admission::Granted => match total(table, target, increment) {
-            Counted::Refused(number) => reply::error(reply, number),
-            Counted::Value(z) => {
+            Err(refusal) => reply::error(reply, refusal),
+            Ok(z) => {
                 let stored = put::store_number(table, target, key, z, terms);
                 finish(stored, Success::Count(increment.with_version, z), reply)
             }
@@ -141,22 +132,19 @@ pub fn excas(
     requires value_len_bound { length value.now ≤ (shape_of target).value_limit }
     ensures { Does (shape_of target) (held table.old reply.old) (held table.new reply.new) (act_in table.old target key.now value.now (ActionOf.Excas swap)) result }
 {
-    let found = target.found;
-    let form = target.form;
-    let Lookup::Live { slot, attributes } = found else {
+    let Lookup::Live { slot, attributes } = target.found else {
         return reply::minus_one(reply);
     };
     if swap.version != attributes.version {
-        let old = record::value(table::record_at(table, form, slot));
+        let old = record::value(table::record_at(table, target.form, slot));
         return reply::stale(reply, old, attributes.version);
     }
-    let expire = swap.expire;
     let terms = Terms {
         presence: Presence::Always,
         change: Change::Raise,
-        expire,
+        expire: swap.expire,
     };
-    let stored = put::store_value(table, target, key, value, terms, Flags::Keep);
+    let stored = put::store_value(table, target, key, value, terms, None);
     finish(stored, Success::Swap, reply)
 }
 
@@ -173,11 +161,10 @@ pub fn exjoin(
     requires value_len_bound { (length value.now ≤ (shape_of target).value_limit) × ChangeOk (model_change join.terms.change) }
     ensures { Does (shape_of target) (held table.old reply.old) (held table.new reply.new) (act_in table.old target key.now value.now (ActionOf.Exjoin join)) result }
 {
-    let found = target.found;
     let terms = join.terms;
-    match live::admit(found, terms) {
+    match live::admit(target.found, terms) {
         Admission::Nil => reply::nil(reply),
-        Admission::Stale => reply::error(reply, 12),
+        Admission::Stale => reply::error(reply, Refusal::Stale),
         Admission::Granted => {
             let stored = put::join_value(table, target, key, value, join);
             finish(stored, Success::Join, reply)

@@ -3,24 +3,25 @@ use borrow.Author.Rules.{rules}
 use mathlib.Core.Path.{◌≡◌, sym, ap, ◌∙◌}
 use mathlib.Core.Option.{some}
 use Rattle.model.specs.Search.{live}
+use Rattle.outcome.specs.Outcome.{to_model}
 use Rattle.record.specs.Forms.{form_of}
 use Rattle.record.specs.Attributes.{attributes_of}
-use Rattle.table.specs.Slots.{slots_of, slot_of, key_slot}
+use Rattle.table.specs.Slots.{slots_of, key_slot}
 use Rattle.table.proofs.Finding.{found_at}
 use Rattle.live.proofs.Looking.{is-absent, is_live, is-expired}
 use Rattle.live.proofs.look_up.Statement.{statement}
 use Rattle.live.proofs.look_up.Tie as tie
 
-abbrev start : tie.In-At → tie.Start
+abbrev start : tie.In-Some → tie.Start
 start c = c.before.before.before.before.before.before
 
 -- the slot that was found
-at : (c : tie.In-At) → some c.in-At.slot ≡ key_slot (start c).args.key.now (slots_of (form_of (start c).args.form) (start c).args.table.now)
-at c = ap slot_of (sym c.in-At.is) ∙ c.find.ensures
+at : (c : tie.In-Some) → some c.in-Some.slot ≡ key_slot (start c).args.key.now (slots_of (form_of (start c).args.form) (start c).args.table.now)
+at c = ap to_model (sym c.in-Some.is) ∙ c.find.ensures
 
 returns : tie.Need-returns-in_default
 returns c =
-    is-absent _ c.args.table.now c.requires.0 c.args.time c.args.key.now (ap slot_of (sym c.in_default.is) ∙ c.find.ensures)
+    is-absent _ c.args.table.now c.requires.0 c.args.time c.args.key.now (ap to_model (sym c.in_default.is) ∙ c.find.ensures)
 
 record-at-requires : tie.Need-record_at-r-requires
 record-at-requires c κs =

@@ -1,24 +1,25 @@
--- The text of the number is the part between two starts, and the reply's one piece.
-use Rattle.std.proofs.Common.{ℕ, ◌-◌, ◌<◌, List, refl, subst, arith}
-use Rattle.model.specs.Resp.{scalar_bytes, error}
-use Rattle.model.specs.Call.{error_reply}
-use Rattle.slice.specs.Wrote.{Wrote}
+-- The text is the model's, and the reply's one piece.
+use Rattle.std.proofs.Common.{◌≡◌, ◌++◌, ◌-◌, [], List, ℕ, get_or, sym, ap, subst}
+use Rattle.model.specs.Bytes.{text}
+use Rattle.model.specs.Resp.{Reply, one, error}
+use Rattle.model.specs.Call.{messages, error_reply}
+use Rattle.outcome.specs.Outcome.{number_of}
+use Rattle.reply.specs.Replied.{FitsIn}
 use Rattle.reply.proofs.Writing.{Begun, begin, room, next, replied}
-use Rattle.reply.proofs.Messages.{message-is, start-before, end-within, part-fits}
 use Rattle.reply.proofs.refusal.error.Goals as goal
 
-pub put_part-len-requires : goal.put_part-len-requires
-put_part-len-requires c =
-    let i = c.args.number - 5 in
-    let below : i < 13 = omega arith in
-    let start : Begun (error_reply c.args.number) c.args.reply.now = begin c.requires.0 in
-    (start-before i below, end-within i below, part-fits i below _ refl (omega (arith, room start)))
+-- the reply has the text m
+told : (n : ℕ) {m : List ℕ} → m ≡ text "ERR " ++ get_or messages (n - 5) [] → error_reply n ≡ one (error m)
+told n e = ap (λ (l : List ℕ). one (error l)) (sym e)
+
+pub put_error-len-requires : goal.put_error-len-requires
+put_error-len-requires c =
+    let e = told (number_of c.args.refusal) c.message.ensures in
+    let b : Begun (one (error c.message.result.now)) c.args.reply.now = begin (subst (λ (r : Reply). FitsIn r c.args.reply.now) e c.requires.0) in
+    room b
 
 pub returns : goal.returns
 returns c =
-    let below : c.args.number - 5 < 13 = omega arith in
-    let start : Begun (error_reply c.args.number) c.args.reply.now = begin c.requires.0 in
-    let wrote =
-    subst (λ (l : List ℕ). Wrote 0 (scalar_bytes (error l)) c.args.reply.now c.put_part-len.new.buf c.put_part-len.result)
-    (message-is (c.args.number - 5) below) c.put_part-len.ensures in
-    replied (next start wrote)
+    let e = told (number_of c.args.refusal) c.message.ensures in
+    let b : Begun (one (error c.message.result.now)) c.args.reply.now = begin (subst (λ (r : Reply). FitsIn r c.args.reply.now) e c.requires.0) in
+    rw (e, c.number.ensures) (replied (next b c.put_error-len.ensures))
