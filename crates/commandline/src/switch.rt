@@ -1,7 +1,7 @@
 // The options by their spelling.
 ghost use Rattle.std.specs.Prelude.{◌≡◌};
 ghost use Rattle.model.specs.Command.{look};
-ghost use Rattle.commandline.specs.Switches.{switches, switch_from, switch_of, dashed, takes_value};
+ghost use Rattle.commandline.specs.Switches.{switches, switch_from, switch_of, takes_value};
 
 // What an argument is before the first word of a command.
 #[derive(Clone, Copy)]
@@ -20,61 +20,39 @@ pub enum Switch {
     Word,
 }
 
-// Whether a word begins with a minus.
-fn is_dashed(w: &[u8]) -> bool
-    ensures { result ≡ dashed w.now }
-{
-    if w.len() == 0 {
-        return false;
-    }
-    w[0] == b'-'
-}
+// The options by their spelling.
+const SPELLINGS: [(&[u8], Switch); 10] = [
+    (b"-t", Switch::Table),
+    (b"--time", Switch::Time),
+    (b"--init", Switch::Init),
+    (b"--owner", Switch::Owner),
+    (b"--installer", Switch::Installer),
+    (b"--list", Switch::List),
+    (b"--check", Switch::Check),
+    (b"--diff", Switch::Diff),
+    (b"--keeper", Switch::Keeper),
+    (b"--", Switch::End),
+];
 
 // The option that a word with a minus spells.
 fn spelled(w: &[u8]) -> Switch
     ensures { result ≡ switch_from (look w.now switches) }
 {
-    if slice::same(w, b"-t") {
-        return Switch::Table;
-    }
-    if slice::same(w, b"--time") {
-        return Switch::Time;
-    }
-    if slice::same(w, b"--init") {
-        return Switch::Init;
-    }
-    if slice::same(w, b"--owner") {
-        return Switch::Owner;
-    }
-    if slice::same(w, b"--installer") {
-        return Switch::Installer;
-    }
-    if slice::same(w, b"--list") {
-        return Switch::List;
-    }
-    if slice::same(w, b"--check") {
-        return Switch::Check;
-    }
-    if slice::same(w, b"--diff") {
-        return Switch::Diff;
-    }
-    if slice::same(w, b"--keeper") {
-        return Switch::Keeper;
-    }
-    if slice::same(w, b"--") {
-        return Switch::End;
+    for (text, switch) in SPELLINGS {
+        if slice::same(w, text) {
+            return switch;
+        }
     }
     Switch::Unknown
 }
 
-// What a word is before the first word of a command.
+// What a word is before the first word of a command: one that begins with a minus is an option.
 pub fn switch_of(w: &[u8]) -> Switch
     ensures { result ≡ switch_of w.now }
 {
-    if is_dashed(w) {
-        spelled(w)
-    } else {
-        Switch::Word
+    match w {
+        [b'-', ..] => spelled(w),
+        _ => Switch::Word,
     }
 }
 
@@ -82,18 +60,8 @@ pub fn switch_of(w: &[u8]) -> Switch
 pub fn takes_value(s: Switch) -> bool
     ensures { result ≡ takes_value s }
 {
-    match s {
-        Switch::Table => true,
-        Switch::Time => true,
-        Switch::Init => true,
-        Switch::Owner => true,
-        Switch::Installer => true,
-        Switch::List => false,
-        Switch::Check => false,
-        Switch::Diff => false,
-        Switch::Keeper => false,
-        Switch::End => false,
-        Switch::Unknown => false,
-        Switch::Word => false,
-    }
+    matches!(
+        s,
+        Switch::Table | Switch::Time | Switch::Init | Switch::Owner | Switch::Installer
+    )
 }

@@ -1,7 +1,8 @@
 // The date and the time of day, in UTC, of a time in milliseconds since 1970 began.
 ghost use Rattle.std.specs.Prelude.{◌≤◌};
 
-use terminal::{add, add_decimal, add_natural};
+use std::fmt;
+use terminal::Decimal;
 
 // The milliseconds of a day.
 const DAY: u64 = 86400000;
@@ -23,18 +24,11 @@ struct Place {
     day: u64,
 }
 
-// n, or 3 where it is more: the fourth century of an era has a day more than the others, and so has the fourth year of four.
-fn at_most_3(n: u64) -> u64
-    ensures { (result ≤ n) × (result ≤ 3) }
-{
-    if n < 3 { n } else { 3 }
-}
-
-// The place of a day of four years, of which the first is given.
+// The place of a day of four years, of which the first is given. The fourth year has a day more than the others.
 fn place_in_four(year: u64, day: u64) -> Place
     requires { year ≤ 9000000000000 }
 {
-    let passed = at_most_3(day / 365);
+    let passed = (day / 365).min(3);
     Place {
         year: year + passed,
         day: day - passed * 365,
@@ -48,11 +42,11 @@ fn place_in_century(year: u64, day: u64) -> Place
     place_in_four(year + day / FOUR_YEARS * 4, day % FOUR_YEARS)
 }
 
-// The place of a day of an era, of which the first year is given.
+// The place of a day of an era, of which the first year is given. The fourth century has a day more than the others.
 fn place_in_era(year: u64, day: u64) -> Place
     requires { (year ≤ 3000000000000) × (day ≤ 1000000000000) }
 {
-    let passed = at_most_3(day / CENTURY);
+    let passed = (day / CENTURY).min(3);
     place_in_century(year + passed * 100, day - passed * CENTURY)
 }
 
@@ -63,48 +57,46 @@ fn place_of(days: u64) -> Place
     place_in_era(days / ERA * 400, days % ERA)
 }
 
-// Adds a number in two digits or more after a byte.
-fn add_two(page: &mut [u8], at: usize, before: u8, n: u64) -> usize {
-    let next = add(page, at, &[before]);
-    if n < 10 {
-        return add_natural(page, next, b"0", n);
+impl fmt::Display for Place {
+    // March is month 0 of such a year; January and February are of the next year.
+    fn fmt<W: fmt::Write>(&self, f: &mut fmt::Formatter<W>) -> fmt::Result {
+        let day = self.day % 366;
+        let months = (day * 5 + 2) / 153;
+        let year = self.year % 1000000000000 + months / 10;
+        let month = (months + 2) % 12 + 1;
+        let day = day - (months * 153 + 2) / 5 + 1;
+        write!(
+            f,
+            "{}-{:02}-{:02}",
+            Decimal(year),
+            Decimal(month),
+            Decimal(day)
+        )
     }
-    add_decimal(page, next, n)
 }
 
-// Adds a number in three digits or more after a point.
-fn add_three(page: &mut [u8], at: usize, n: u64) -> usize {
-    if n < 10 {
-        return add_natural(page, at, b".00", n);
+// A time of day in milliseconds.
+#[derive(Clone, Copy)]
+struct Clock(u64);
+
+impl fmt::Display for Clock {
+    fn fmt<W: fmt::Write>(&self, f: &mut fmt::Formatter<W>) -> fmt::Result {
+        let hours = Decimal(self.0 / 3600000);
+        let minutes = Decimal(self.0 / 60000 % 60);
+        let seconds = Decimal(self.0 / 1000 % 60);
+        let ms = Decimal(self.0 % 1000);
+        write!(f, "{hours:02}:{minutes:02}:{seconds:02}.{ms:03}")
     }
-    if n < 100 {
-        return add_natural(page, at, b".0", n);
+}
+
+// A time as a date and a time of day.
+#[derive(Clone, Copy)]
+pub struct Date(pub u64);
+
+impl fmt::Display for Date {
+    fn fmt<W: fmt::Write>(&self, f: &mut fmt::Formatter<W>) -> fmt::Result {
+        let day = place_of(self.0 / DAY + BEFORE);
+        let clock = Clock(self.0 % DAY);
+        write!(f, "{day} {clock} UTC")
     }
-    add_natural(page, at, b".", n)
-}
-
-// Adds the year, month and day of a place. March is month 0 of such a year; January and February are of the next year.
-fn add_day(page: &mut [u8], at: usize, place: Place) -> usize {
-    let month = (place.day % 366 * 5 + 2) / 153;
-    let day = place.day % 366 - (month * 153 + 2) / 5 + 1;
-    let next = add(page, at, b" (");
-    let later = add_decimal(page, next, place.year % 1000000000000 + month / 10);
-    let then = add_two(page, later, b'-', (month + 2) % 12 + 1);
-    add_two(page, then, b'-', day)
-}
-
-// Adds a time of day in milliseconds.
-fn add_clock(page: &mut [u8], at: usize, ms: u64) -> usize {
-    let hours = add_two(page, at, b' ', ms / 3600000);
-    let minutes = add_two(page, hours, b':', ms / 60000 % 60);
-    let seconds = add_two(page, minutes, b':', ms / 1000 % 60);
-    let last = add_three(page, seconds, ms % 1000);
-    add(page, last, b" UTC)")
-}
-
-// Adds a time as a date and a time of day.
-pub fn add_date(page: &mut [u8], at: usize, ms: u64) -> usize {
-    let place = place_of(ms / DAY + BEFORE);
-    let next = add_day(page, at, place);
-    add_clock(page, next, ms % DAY)
 }

@@ -1,126 +1,105 @@
 // What is wrong with a table: a line for its length and one for each slot, with the rule that is broken.
-ghost use Rattle.std.specs.Prelude.{◌≡◌, ◌≤◌, ◌<◌, length, eqb};
+ghost use Rattle.std.specs.Prelude.{◌≡◌, ◌≤◌, ◌<◌, length, not};
 ghost use Rattle.model.specs.Table.{form128, read_slot};
 ghost use Rattle.model.specs.Optional.{is_some};
+ghost use Rattle.outcome.specs.Outcome.{to_model};
 ghost use Rattle.inspection.specs.Parts.{part_start};
 
+use crate::SIZE;
 use record::{
     EXPIRY_AT, Form, KEY_AT, KEY_LENGTH_AT, MARK_AT, TIME_LIMIT, USE_AT, USED, VALUE_AT,
     VALUE_LENGTH_AT, VERSION_AT, VERSION_LIMIT,
 };
-use terminal::{Complaints, complain, complain_decimal};
-
-// The bytes of a record.
-const SIZE: usize = 128;
+use std::fmt;
+use terminal::{Complaints, Decimal, complain, complain_text};
 
 // The most records.
 const MOST: usize = 256;
 
-// The rule that bytes 0 to 23 of a record in use break, by its number; 0 where they break none.
-fn head_fault(r: &[u8]) -> u32
-    requires { length r.now ≡ 128 }
-{
+// The rule that a slot breaks: the first of these.
+#[derive(Clone, Copy)]
+pub enum Fault {
+    Empty,
+    Use,
+    KeyLength,
+    ValueLength,
+    Mark,
+    Version,
+    Expiry,
+    AfterKey,
+    AfterValue,
+}
+
+impl fmt::Display for Fault {
+    fn fmt<W: fmt::Write>(&self, f: &mut fmt::Formatter<W>) -> fmt::Result {
+        f.write_str(match self {
+            Fault::Empty => "an empty record has a byte that is not 0",
+            Fault::Use => "byte 0 is neither 0 nor 1",
+            Fault::KeyLength => "the key's length is not 1 to 24",
+            Fault::ValueLength => "the value's length is above 64",
+            Fault::Mark => "byte 3 is not 0",
+            Fault::Version => "the version is 2^63 or more",
+            Fault::Expiry => "the expiry is above 2^62",
+            Fault::AfterKey => "a byte after the key is not 0",
+            Fault::AfterValue => "a byte after the value is not 0",
+        })
+    }
+}
+
+// The rule that bytes 0 to 23 of a record in use break.
+fn head_fault(r: &[u8; SIZE]) -> Option<Fault> {
     if r[USE_AT] != USED {
-        return 2;
+        return Some(Fault::Use);
     }
-    if r[KEY_LENGTH_AT] < 1 {
-        return 3;
-    }
-    if 24 < r[KEY_LENGTH_AT] {
-        return 3;
+    if r[KEY_LENGTH_AT] < 1 || 24 < r[KEY_LENGTH_AT] {
+        return Some(Fault::KeyLength);
     }
     if 64 < r[VALUE_LENGTH_AT] {
-        return 4;
+        return Some(Fault::ValueLength);
     }
     if r[MARK_AT] != 0 {
-        return 5;
+        return Some(Fault::Mark);
     }
     if VERSION_LIMIT <= slice::get8(r, VERSION_AT) {
-        return 6;
+        return Some(Fault::Version);
     }
     if TIME_LIMIT < slice::get8(r, EXPIRY_AT) {
-        return 7;
+        return Some(Fault::Expiry);
     }
-    0
+    None
 }
 
-// The byte as an index.
-fn wide(b: u8) -> usize
-    ensures { result < 256 }
-{
-    b as usize
-}
-
-// The rule that bytes break that are no record, by its number, from 1 on.
-fn broken_rule(r: &[u8]) -> u32
-    requires { length r.now ≡ 128 }
-    ensures { 0 < result }
-{
+// The rule that bytes break that are no record.
+fn broken_rule(r: &[u8; SIZE]) -> Fault {
     if r[USE_AT] == 0 {
-        return 1;
+        return Fault::Empty;
     }
-    let head = head_fault(r);
-    if 0 < head {
-        return head;
+    if let Some(fault) = head_fault(r) {
+        return fault;
     }
-    let key_end = KEY_AT + wide(r[KEY_LENGTH_AT]);
-    if key_end < VALUE_AT {
-        if !slice::is_zero(&r[key_end..VALUE_AT]) {
-            return 8;
-        }
+    let key_end = KEY_AT + r[KEY_LENGTH_AT] as usize;
+    if key_end < VALUE_AT && !slice::is_zero(&r[key_end..VALUE_AT]) {
+        return Fault::AfterKey;
     }
-    9
+    Fault::AfterValue
 }
 
-// The rule that the bytes of a slot break, by its number; 0 exactly where they are a record.
-pub fn fault_of(r: &[u8]) -> u32
-    requires { length r.now ≡ 128 }
-    ensures { eqb result 0 ≡ is_some (read_slot form128 r.now) }
+// The rule that the bytes of a slot break; none exactly where they are a record.
+pub fn fault_of(r: &[u8; SIZE]) -> Option<Fault>
+    ensures { not (is_some (to_model result)) ≡ is_some (read_slot form128 r.now) }
 {
     if record::readable(r, Form::Of128) {
-        return 0;
+        return None;
     }
-    broken_rule(r)
-}
-
-// Says which rule is broken, by its number.
-fn tell_rule(rt: &impl Complaints, rule: u32) {
-    match rule {
-        1 => complain(rt, b"an empty record has a byte that is not 0\n"),
-        2 => complain(rt, b"byte 0 is neither 0 nor 1\n"),
-        3 => complain(rt, b"the key's length is not 1 to 24\n"),
-        4 => complain(rt, b"the value's length is above 64\n"),
-        5 => complain(rt, b"byte 3 is not 0\n"),
-        6 => complain(rt, b"the version is 2^63 or more\n"),
-        7 => complain(rt, b"the expiry is above 2^62\n"),
-        8 => complain(rt, b"a byte after the key is not 0\n"),
-        _ => complain(rt, b"a byte after the value is not 0\n"),
-    }
-}
-
-// Begins the line on a slot.
-fn tell_slot(rt: &impl Complaints, path: &[u8], slot: usize) {
-    complain(rt, b"pietrunel: ");
-    complain(rt, path);
-    complain(rt, b": slot ");
-    complain_decimal(rt, slot as u64);
-    complain(rt, b": ");
+    Some(broken_rule(r))
 }
 
 // Whether two slots hold records in use with equal keys.
-fn is_twin(r: &[u8], s: &[u8]) -> bool
-    requires { (length r.now ≡ 128) × (length s.now ≡ 128) }
-{
-    if fault_of(s) != 0 {
-        return false;
-    }
-    if s[USE_AT] != USED {
-        return false;
-    }
-    if r[KEY_LENGTH_AT] != s[KEY_LENGTH_AT] {
-        return false;
-    }
-    slice::same(&r[KEY_AT..VALUE_AT], &s[KEY_AT..VALUE_AT])
+fn is_twin(r: &[u8; SIZE], s: &[u8; SIZE]) -> bool {
+    fault_of(s).is_none()
+        && s[USE_AT] == USED
+        && r[KEY_LENGTH_AT] == s[KEY_LENGTH_AT]
+        && r[KEY_AT..VALUE_AT] == s[KEY_AT..VALUE_AT]
 }
 
 // The first slot of a slot's part, where the parts meet at a boundary. At 0 they are one.
@@ -133,58 +112,56 @@ fn part_start(slot: usize, boundary: usize) -> usize
     boundary
 }
 
-// The first slot from `start` on and before the given one that has an equal key, or that one.
-fn twin_of(table: &[u8], r: &[u8], start: usize, slot: usize) -> usize
-    requires { (length r.now ≡ 128) × (start ≤ slot) }
-    ensures { (start ≤ result) × (result ≤ slot) }
-{
-    let n = table.len() / SIZE;
-    let mut i = start;
-    while i < slot {
-        if n <= i {
-            return slot;
-        }
-        let from = i * SIZE;
-        if is_twin(r, &table[from..from + SIZE]) {
-            return i;
-        }
-        i += 1;
-    }
-    slot
+// A table whose two parts meet at a boundary, and its file; what is wrong with it is told.
+#[derive(Clone, Copy)]
+struct Subject<'a> {
+    records: &'a [[u8; SIZE]],
+    boundary: usize,
+    path: &'a [u8],
 }
 
-// Tells what is wrong with a slot, if anything is. A key is compared with those of the slot's part alone.
-fn tell_fault(
-    rt: &impl Complaints,
-    table: &[u8],
-    r: &[u8],
-    slot: usize,
-    boundary: usize,
-    path: &[u8],
-)
-    requires { length r.now ≡ 128 }
-{
-    let rule = fault_of(r);
-    if 0 < rule {
-        tell_slot(rt, path, slot);
-        tell_rule(rt, rule);
-        return;
+impl Subject<'_> {
+    // The first slot before a slot and in its part that has an equal key.
+    fn twin_of(&self, r: &[u8; SIZE], slot: usize) -> Option<usize>
+        requires { slot ≤ length self.now.records.now }
+    {
+        let start = part_start(slot, self.boundary);
+        let i = self.records[start..slot]
+            .iter()
+            .position(|s| is_twin(r, s))?;
+        Some(start + i)
     }
-    if r[USE_AT] != USED {
-        return;
+
+    // Begins the line on a slot.
+    fn tell_slot(&self, rt: &impl Complaints, slot: usize) {
+        complain(rt, b"pietrunel: ");
+        complain(rt, self.path);
+        complain_text(rt, format_args!(": slot {}: ", Decimal(slot as u64)));
     }
-    let twin = twin_of(table, r, part_start(slot, boundary), slot);
-    if twin < slot {
-        tell_slot(rt, path, slot);
-        complain(rt, b"the key is that of slot ");
-        complain_decimal(rt, twin as u64);
-        complain(rt, b" too\n");
+
+    // Tells what is wrong with a slot, if anything is. A key is compared with those of the slot's part alone.
+    fn tell_fault(&self, rt: &impl Complaints, r: &[u8; SIZE], slot: usize)
+        requires { slot ≤ length self.now.records.now }
+    {
+        if let Some(fault) = fault_of(r) {
+            self.tell_slot(rt, slot);
+            complain_text(rt, format_args!("{fault}\n"));
+            return;
+        }
+        if r[USE_AT] != USED {
+            return;
+        }
+        if let Some(twin) = self.twin_of(r, slot) {
+            self.tell_slot(rt, slot);
+            let twin = Decimal(twin as u64);
+            complain_text(rt, format_args!("the key is that of slot {twin} too\n"));
+        }
     }
 }
 
 // Tells what is wrong with the length of a table, if anything is.
 fn tell_length(rt: &impl Complaints, len: usize, path: &[u8]) {
-    let right = (len % SIZE == 0) & ((SIZE <= len) & (len <= MOST * SIZE));
+    let right = len % SIZE == 0 && SIZE <= len && len <= MOST * SIZE;
     if !right {
         complain(rt, b"pietrunel: ");
         complain(rt, path);
@@ -198,11 +175,13 @@ fn tell_length(rt: &impl Complaints, len: usize, path: &[u8]) {
 // Tells all that is wrong with a table whose two parts meet at a boundary, counted in records; with 0 it is one part.
 pub fn tell_faults(rt: &impl Complaints, table: &[u8], boundary: usize, path: &[u8]) {
     tell_length(rt, table.len(), path);
-    let n = table.len() / SIZE;
-    let mut i = 0;
-    while i < n {
-        let from = i * SIZE;
-        tell_fault(rt, table, &table[from..from + SIZE], i, boundary, path);
-        i += 1;
+    let (records, _) = table.as_chunks::<SIZE>();
+    let subject = Subject {
+        records,
+        boundary,
+        path,
+    };
+    for (slot, r) in records.iter().enumerate() {
+        subject.tell_fault(rt, r, slot);
     }
 }

@@ -9,3 +9,6 @@ mod lines;
 pub use between::{Printed, print_difference};
 pub use fault::tell_faults;
 pub use lines::list_records;
+
+// The bytes of a record.
+const SIZE: usize = 128;

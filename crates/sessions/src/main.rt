@@ -5,31 +5,23 @@
 // and "Also" lines say.
 #![tactic(auto)]
 
+mod change;
 mod compose;
 mod heading;
-mod outcome;
 mod play;
 mod session;
 
 use std::io;
 use std::io::Read;
 
-// Reads standard input to its end, or until the buffer is full, and gives back how many bytes came.
-fn read_script(rt: &impl Input, script: &mut [u8]) -> io::Result<usize> {
-    let mut input = rt.reader();
-    let mut done = 0;
-    while done < script.len() {
-        let got = input.read(&mut script[done..])?;
-        if got == 0 {
-            return Ok(done);
-        }
-        done += got;
-    }
-    Ok(done)
-}
+// The room for a script.
+const ROOM: u64 = 4096;
 
 fn main(rt: HostRuntime) -> io::Result<()> {
-    let mut script = [0u8; 4096];
-    let n = read_script(&rt, &mut script)?;
-    play::play_first(&rt, &script, n)
+    let mut script = Vec::new(rt.alloc());
+    let n = rt.reader().take(ROOM).read_to_end(&mut script)?;
+    if n as u64 == ROOM {
+        return terminal::print(&rt, b"the script is longer than its buffer\n");
+    }
+    play::play(&rt, &script)
 }

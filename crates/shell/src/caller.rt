@@ -1,79 +1,80 @@
-// Who calls, and when: the part of the table that a call means, by the options of the command line, and its clock.
+// Who calls, and when: the part of the table that a call means, and its time, by the options of the command line.
 ghost use Rattle.std.specs.Prelude.{◌≡◌};
 ghost use Rattle.partition.specs.Parts.{model_view};
 ghost use Rattle.shell.specs.Views.{boundary_place, view_of};
 
-use crate::notice::{Clock, refuse};
+use crate::failure::Failure;
 use commandline::{Line, number_at};
-use number::Natural;
 use partition::{Party, View};
 use std::env::Env;
-use terminal::Complaints;
 
-// The part of the table that a call means, and its time.
+// The table's file, the part of it that a call means, and its time where one is set; else it is that of the lock's grant.
 #[derive(Clone, Copy)]
-pub struct Caller {
+pub struct Caller<'a> {
+    pub path: &'a [u8],
     pub view: View,
-    pub clock: Clock,
+    pub time: Option<u64>,
 }
 
-// The view that the options name; or that they name none, which is told.
-#[derive(Clone, Copy)]
-pub enum Viewed {
-    Known(View),
-    Refused,
-}
-
-// The place of the boundary among the arguments; 0 where no party is named.
-fn boundary_place(line: Line) -> usize
+// The place of the boundary among the arguments; none where no party is named.
+fn boundary_place(line: Line) -> Option<usize>
     ensures { result ≡ boundary_place line.owner line.installer }
 {
-    if line.owner != 0 {
-        return line.owner;
-    }
-    line.installer
+    line.owner.or(line.installer)
 }
 
 // The view of the party that is named, at a boundary; that of the whole table where none is.
 fn view_at(line: Line, boundary: usize) -> View
     ensures { model_view result ≡ view_of line.owner line.installer boundary }
 {
-    if line.owner != 0 {
-        return View {
+    match (line.owner, line.installer) {
+        (Some(_), _) => View {
             party: Party::Owner,
             boundary,
-        };
-    }
-    if line.installer != 0 {
-        return View {
+        },
+        (None, Some(_)) => View {
             party: Party::Installer,
             boundary,
-        };
+        },
+        (None, None) => View {
+            party: Party::Whole,
+            boundary: 0,
+        },
     }
-    View {
-        party: Party::Whole,
-        boundary: 0,
-    }
-}
-
-// Says that a boundary is no number.
-fn refuse_boundary(rt: &impl Complaints, line: Line) {
-    if line.owner != 0 {
-        refuse(rt, b"--owner needs a number of records");
-        return;
-    }
-    refuse(rt, b"--installer needs a number of records");
 }
 
 // The view of a command line's calls.
-pub fn view_of(rt: &(impl Env + Complaints), line: Line) -> Viewed {
-    let place = boundary_place(line);
-    if place == 0 {
-        return Viewed::Known(view_at(line, 0));
-    }
-    let Natural::Value(n) = number_at(rt, place) else {
-        refuse_boundary(rt, line);
-        return Viewed::Refused;
+fn view_of(rt: &impl Env, line: Line) -> Result<View, Failure<'static>> {
+    let Some(place) = boundary_place(line) else {
+        return Ok(view_at(line, 0));
     };
-    Viewed::Known(view_at(line, n as usize))
+    let Some(n) = number_at(rt, place) else {
+        return Err(Failure::Because(match line.owner {
+            Some(_) => "--owner needs a number of records",
+            None => "--installer needs a number of records",
+        }));
+    };
+    Ok(view_at(line, n as usize))
+}
+
+// The time that a command line sets.
+fn time_of(rt: &impl Env, line: Line) -> Result<Option<u64>, Failure<'static>> {
+    let Some(place) = line.time else {
+        return Ok(None);
+    };
+    let Some(time) = number_at(rt, place) else {
+        return Err(Failure::Because("--time needs a number of milliseconds"));
+    };
+    Ok(Some(time))
+}
+
+// Who calls by a command line, on the table's file at a path.
+pub fn caller_of<'a>(
+    rt: &impl Env,
+    line: Line,
+    path: &'a [u8],
+) -> Result<Caller<'a>, Failure<'static>> {
+    let view = view_of(rt, line)?;
+    let time = time_of(rt, line)?;
+    Ok(Caller { path, view, time })
 }

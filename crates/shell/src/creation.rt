@@ -1,49 +1,48 @@
 // A new table.
+ghost use Rattle.std.specs.Prelude.{◌≤◌};
+
+use crate::failure::Failure;
 use crate::host::Host;
-use crate::keeper::{Asked, Grant, ask, let_go};
-use crate::notice::refuse_file;
-use status::{DONE, REFUSED};
-use tablefile::{Loaded, SPACE, load, replace};
+use crate::keeper::{Grant, ask, let_go};
+use record::Form;
+use status::DONE;
+use tablefile::{NotLoaded, SPACE, load, replace};
 
-// The most records.
-const MOST: usize = 256;
-
-// The bytes of a record.
-const RECORD_SIZE: usize = 128;
-
-// Writes a table of empty records, and gives back the exit status.
-fn make(rt: &impl Host, path: &[u8], grant: Grant, records: usize) -> u64 {
+// Writes a table of empty records.
+fn make(rt: &impl Host, path: &[u8], grant: Grant, records: u64) -> Result<u64, Failure<'static>>
+    requires { records ≤ 256 }
+{
     let zeros = [0u8; SPACE];
-    let bytes: &[u8] = &zeros;
-    if MOST < records {
-        return REFUSED;
+    let size = records as usize * record::size(Form::Of128);
+    if replace(rt, path, grant.rights, &zeros[..size]) {
+        return Ok(DONE);
     }
-    let size = records * RECORD_SIZE;
-    if bytes.len() < size {
-        return REFUSED;
-    }
-    if replace(rt, path, grant.rights, &bytes[0..size]) {
-        return DONE;
-    }
-    REFUSED
+    Err(Failure::Told)
 }
 
 // Makes a new table while no other run can, and refuses where its file is there.
-fn init_alone(rt: &impl Host, path: &[u8], grant: Grant, records: u64) -> u64 {
+fn init_alone<'a>(
+    rt: &impl Host,
+    path: &'a [u8],
+    grant: Grant,
+    records: u64,
+) -> Result<u64, Failure<'a>>
+    requires { records ≤ 256 }
+{
     let mut table = [0u8; SPACE];
     match load(rt, path, &mut table) {
-        Loaded::Missing => make(rt, path, grant, records as usize),
-        Loaded::Bytes(_) => refuse_file(rt, path, b"is there already"),
-        Loaded::Failed => REFUSED,
+        Ok(_) => Err(Failure::File(path, "is there already")),
+        Err(NotLoaded::Missing) => make(rt, path, grant, records),
+        Err(NotLoaded::Told) => Err(Failure::Told),
     }
 }
 
-// Makes a new table, and gives back the exit status.
-pub fn init(rt: &impl Host, path: &[u8], records: u64) -> u64 {
-    let Asked::Granted(grant) = ask(rt, true) else {
-        return REFUSED;
-    };
-    let status = init_alone(rt, path, grant, records);
-    let_go(true);
-    status
+// Makes a new table.
+pub(crate) fn init<'a>(rt: &impl Host, path: &'a [u8], records: u64) -> Result<u64, Failure<'a>>
+    requires { records ≤ 256 }
+{
+    let grant = ask()?;
+    let made = init_alone(rt, path, grant, records);
+    let_go();
+    made
 }

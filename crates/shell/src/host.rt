@@ -5,6 +5,12 @@ use std::random::RandomSource;
 use std::rt::Files;
 use terminal::Complaints;
 
-pub trait Host: Print + Input + Env + Files<File = File> + RandomSource + Complaints {}
+pub trait Host: Print
+    + Input
+    + Env
+    + Files<File = File>
+    + RandomSource
+    + AllocGlobal
+    + Complaints {}
 
 impl Host for HostRuntime {}

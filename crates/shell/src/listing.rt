@@ -1,95 +1,64 @@
 // The records of a table's file, a line each, and the table's check.
 ghost use Rattle.partition.specs.Parts.{model_view};
 ghost use Rattle.shell.specs.Views.{Listed};
+ghost use Rattle.shell.specs.Statuses.{status_in};
 
 use crate::caller::Caller;
+use crate::failure::{Failure, refused, unloaded};
 use crate::host::Host;
-use crate::keeper::{Asked, ask, let_go};
-use crate::notice::{refuse_call, refuse_file, refuse_output, time_by};
+use crate::keeper::{ask, let_go};
 use inspection::{list_records, tell_faults};
-use partition::{View, meets_at, slots_of};
-use record::TIME_LIMIT;
-use status::{REFUSED, status_of};
-use std::io;
-use tablefile::{Loaded, SPACE, load};
+use outcome::Refusal;
+use partition::{meets_at, slots_of};
+use record::{Form, TIME_LIMIT};
+use status::status_of;
+use tablefile::{SPACE, load};
 use terminal::Complaints;
 
-// The bytes of a record.
-const SIZE: usize = 128;
-
-// Lists the caller's part of a table, or counts its records; gives back what became of writing the last line.
-fn list_part(rt: &impl Print, table: &[u8], view: View, time: u64, shown: bool) -> io::Result<()> {
-    let slots = slots_of(view, table.len() / SIZE);
-    list_records(rt, table, slots.first, slots.end, time, shown)
-}
-
-// Tells what breaks the rules of a table, in either part, where a call is refused for it.
-fn tell_if_bad(rt: &impl Complaints, number: u32, table: &[u8], view: View, path: &[u8]) {
-    if number != 0 {
+// Lists the caller's part of a table, or only counts its records. What breaks the rules is told first.
+fn list_table<'a>(
+    rt: &(impl Print + AllocGlobal + Complaints),
+    caller: Caller<'a>,
+    table: &[u8],
+    time: u64,
+    shown: bool,
+) -> Result<u64, Failure<'a>>
+    ensures { Listed (model_view caller.entry.view) table.now (status_in result) }
+{
+    let Caller { path, view, .. } = caller;
+    if TIME_LIMIT < time {
+        return Err(refused(Refusal::Time.number(), path));
+    }
+    let refusal = partition::refusal(table, view);
+    if let Some(Refusal::Boundary) = refusal {
+        return Err(refused(Refusal::Boundary.number(), path));
+    }
+    if refusal.is_some() {
         tell_faults(rt, table, meets_at(view), path);
     }
+    list_records(
+        rt,
+        table,
+        slots_of(view, table::count(table, Form::Of128)),
+        time,
+        shown,
+    )?;
+    Ok(status_of(refusal.map_or(0, Refusal::number)))
 }
 
-// Lists the caller's part of a table, or only counts its records. What breaks the rules is told first.
-fn list_table(
-    rt: &(impl Print + Complaints),
-    table: &[u8],
-    path: &[u8],
-    view: View,
-    time: u64,
+// Lists a table's file, or checks it where its records are not to be shown. Without a keeper nothing is locked, and the time is 0 unless it is set.
+pub fn list<'a>(
+    rt: &impl Host,
+    kept: bool,
+    caller: Caller<'a>,
     shown: bool,
-) -> u64
-    ensures { Listed (model_view view) table.now result }
-{
-    if TIME_LIMIT < time {
-        refuse_call(rt, 2, path);
-        return REFUSED;
+) -> Result<u64, Failure<'a>> {
+    let granted = if kept { ask()?.time } else { 0 };
+    let mut buffer = [0u8; SPACE];
+    let loaded = load(rt, caller.path, &mut buffer);
+    if kept {
+        let_go();
     }
-    let number = partition::refusal(table, view);
-    if number == 18 {
-        refuse_call(rt, number, path);
-        return status_of(number);
-    }
-    tell_if_bad(rt, number, table, view, path);
-    if let Err(error) = list_part(rt, table, view, time, shown) {
-        refuse_output(rt, error);
-        return REFUSED;
-    }
-    status_of(number)
-}
-
-// Lists the table in the first n bytes of a buffer.
-fn list_first(
-    rt: &(impl Print + Complaints),
-    buffer: &[u8; SPACE],
-    n: usize,
-    path: &[u8],
-    view: View,
-    time: u64,
-    shown: bool,
-) -> u64 {
-    let table: &[u8] = buffer;
-    if n <= table.len() {
-        return list_table(rt, &table[0..n], path, view, time, shown);
-    }
-    refuse_call(rt, 1, path)
-}
-
-// Lists a table's file, or checks it where its records are not to be shown.
-pub fn list(rt: &impl Host, kept: bool, path: &[u8], caller: Caller, shown: bool) -> u64 {
-    let Asked::Granted(grant) = ask(rt, kept) else {
-        return REFUSED;
-    };
-    let mut table = [0u8; SPACE];
-    let loaded = load(rt, path, &mut table);
-    let_go(kept);
-    match loaded {
-        Loaded::Bytes(n) => {
-            let clock = caller.clock;
-            let view = caller.view;
-            list_first(rt, &table, n, path, view, time_by(clock, grant.time), shown)
-        }
-        Loaded::Missing => refuse_file(rt, path, b"no such file"),
-        Loaded::Failed => REFUSED,
-    }
+    let table = loaded.map_err(|error| unloaded(error, caller.path))?;
+    list_table(rt, caller, table, caller.time.unwrap_or(granted), shown)
 }

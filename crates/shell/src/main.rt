@@ -6,11 +6,11 @@ mod caller;
 mod comparison;
 mod creation;
 mod exchange;
+mod failure;
 mod host;
 mod job;
 mod keeper;
 mod listing;
-mod notice;
 mod serve;
 mod session;
 
@@ -20,7 +20,7 @@ fn main(rt: HostRuntime) {
     let count = count_arguments(&rt);
     let line = read_line(&rt, count);
     let status = job::run(&rt, line, count);
-    if line.keeper != 0 {
+    if line.keeper.is_some() {
         keeper::tell_status(status);
     }
 }

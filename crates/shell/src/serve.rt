@@ -1,91 +1,37 @@
 // One command on a table's file: under the table's lock it is applied to the file's bytes, and a changed table is written.
+ghost use Rattle.std.specs.Prelude.{◌≤◌, IfOk};
 ghost use Rattle.status.specs.Status.{Told};
 
 use crate::caller::Caller;
-use crate::exchange::{Exchange, carry_out};
+use crate::exchange::{Exchange, Request, carry_out};
+use crate::failure::{Failure, refused};
 use crate::host::Host;
-use crate::keeper::{Asked, Grant, ask, let_go};
-use crate::notice::{refuse_call, tell_unwritten, time_by};
-use partition::View;
+use crate::keeper::{Grant, ask, let_go};
 use reply::Answer;
-use status::{LOST, REFUSED, status_of, status_told};
+use status::{LOST, status_of, status_told};
+use std::env::Env;
 use std::io;
 use std::rt::Files;
-use tablefile::{Loaded, Rights, SPACE, load, replace};
-use terminal::{Complaints, print, print_reply};
+use tablefile::{NotLoaded, SPACE, load, replace};
+use terminal::{Complaints, complain, complain_error, print, print_reply};
 
 // The bytes of a new table's 16 empty records.
 const NEW_SIZE: usize = 2048;
 
-// What became of a command and the size of its table; or that the table could not be read or written, which is told.
-#[derive(Clone, Copy)]
-enum Tried {
-    Done(Exchange, usize),
-    Failed,
-}
-
-// Reads a table; a missing file is one of 16 empty records.
-fn open_table(rt: &(impl Files + Complaints), path: &[u8], table: &mut [u8; SPACE]) -> Loaded {
-    *table = [0u8; SPACE];
-    match load(rt, path, table) {
-        Loaded::Bytes(n) => Loaded::Bytes(n),
-        Loaded::Missing => Loaded::Bytes(NEW_SIZE),
-        Loaded::Failed => Loaded::Failed,
-    }
-}
-
-// Applies a command to the first `size` bytes of a table; `before` holds the same bytes.
-fn apply(
-    before: &[u8; SPACE],
-    table: &mut [u8],
-    size: usize,
-    view: View,
-    time: u64,
-    command: &[u8],
-    reply: &mut [u8],
-) -> Tried {
-    let old: &[u8] = before;
-    if old.len() < size {
-        return Tried::Failed;
-    }
-    if table.len() < size {
-        return Tried::Failed;
-    }
-    let old = &old[0..size];
-    let done = carry_out(old, &mut table[0..size], view, time, command, reply);
-    Tried::Done(done, size)
-}
-
-// Reads a table and applies a command to it.
-fn attempt(
+// Reads a table to the front of a buffer, and gives back its size; a missing file is one of 16 empty records.
+// Kept: the size beside the buffer. A part of it handed back was tried, and its proof didn't close, since the part comes by two paths.
+fn open_table(
     rt: &(impl Files + Complaints),
     path: &[u8],
-    view: View,
-    time: u64,
-    command: &[u8],
-    table: &mut [u8; SPACE],
-    reply: &mut [u8; 128],
-) -> Tried {
-    let Loaded::Bytes(size) = open_table(rt, path, table) else {
-        return Tried::Failed;
-    };
-    let before = *table;
-    apply(&before, table, size, view, time, command, reply)
-}
-
-// Replaces the table's file by the first `size` bytes of a buffer; gives back whether all went well.
-fn write_first(
-    rt: &impl Host,
-    path: &[u8],
-    rights: Rights,
-    table: &[u8; SPACE],
-    size: usize,
-) -> bool {
-    let bytes: &[u8] = table;
-    if size <= bytes.len() {
-        return replace(rt, path, rights, &bytes[0..size]);
+    buffer: &mut [u8; SPACE],
+) -> Result<usize, Failure<'static>>
+    ensures { IfOk result (λ n. n ≤ 32896) }
+{
+    match load(rt, path, buffer) {
+        Ok(table) => Ok(table.len()),
+        Err(NotLoaded::Missing) => Ok(NEW_SIZE),
+        Err(NotLoaded::Told) => Err(Failure::Told),
     }
-    false
 }
 
 // Applies a command to a table's file while no other run can change it.
@@ -93,86 +39,84 @@ fn serve_alone(
     rt: &impl Host,
     grant: Grant,
     path: &[u8],
-    view: View,
-    time: u64,
-    command: &[u8],
+    request: Request<'_>,
     reply: &mut [u8; 128],
-) -> Tried {
-    let mut table = [0u8; SPACE];
-    let tried = attempt(rt, path, view, time, command, &mut table, reply);
-    let Tried::Done(done, size) = tried else {
-        return Tried::Failed;
-    };
-    if done.write {
-        if !write_first(rt, path, grant.rights, &table, size) {
-            return Tried::Failed;
-        }
+) -> Result<Exchange, Failure<'static>> {
+    let mut before = [0u8; SPACE];
+    let size = open_table(rt, path, &mut before)?;
+    let mut after = before;
+    let table = &mut after[..size];
+    let done = carry_out(request, &before[..size], table, reply);
+    if done.write && !replace(rt, path, grant.rights, table) {
+        return Err(Failure::Told);
     }
-    Tried::Done(done, size)
+    Ok(done)
 }
 
 // Prints a reply as it is, or as redis-cli does, in one write.
-fn print_as(rt: &impl Print, raw: bool, reply: &[u8]) -> io::Result<()> {
+// Kept: a flag, since a function passed for it would need a clause that it may be called at each step on the way here.
+fn print_as(rt: &(impl Print + AllocGlobal), raw: bool, reply: &[u8]) -> io::Result<()> {
     if raw {
         return print(rt, reply);
     }
     print_reply(rt, reply)
 }
 
-// Prints a reply, says so where it cannot be written, and gives back whether it was.
-fn print_or_tell(rt: &(impl Print + Complaints), raw: bool, reply: &[u8], changed: bool) -> bool {
-    match print_as(rt, raw, reply) {
-        Ok(()) => true,
-        Err(error) => {
-            tell_unwritten(rt, error, changed);
-            false
-        }
-    }
+// Says that a reply could not be written, why, and whether the table did change.
+fn tell_unwritten(rt: &impl Complaints, error: io::Error, changed: bool) {
+    complain(
+        rt,
+        if changed {
+            b"pietrunel: the table did change, but the reply cannot be written: "
+        } else {
+            b"pietrunel: nothing was changed, and the reply cannot be written: "
+        },
+    );
+    complain_error(rt, b"standard output", error);
 }
 
 // Prints an answer's reply, or what its refusal stands for, and gives back the exit status.
 fn show(
-    rt: &(impl Print + Complaints),
-    answer: Answer,
-    changed: bool,
+    rt: &(impl Print + AllocGlobal + Env + Complaints),
+    done: Exchange,
     buffer: &[u8; 128],
     raw: bool,
     path: &[u8],
 ) -> u64
-    ensures { Told changed answer.number result }
+    ensures { Told done.write done.answer.number result }
 {
-    let reply: &[u8] = buffer;
-    let len = answer.len;
+    let Answer { number, len } = done.answer;
     if len == 0 {
-        refuse_call(rt, answer.number, path);
-        return status_of(answer.number);
+        refused(number, path).tell(rt);
+        return status_of(number);
     }
-    if len <= reply.len() {
-        let written = print_or_tell(rt, raw, &reply[0..len], changed);
-        return status_told(written, changed, answer.number);
+    let Some(reply) = buffer.get(..len) else {
+        return status_of(number);
+    };
+    let written = print_as(rt, raw, reply);
+    if let Err(error) = written {
+        tell_unwritten(rt, error, done.write);
     }
-    status_of(answer.number)
+    status_told(written.is_ok(), done.write, number)
 }
 
 // Applies a command to a table's file, prints the reply and gives back the exit status. The lock is let go before the reply is written, which
 // may take as long as its reader likes. Where it cannot be let go no command may follow, so that it ends with this program.
-pub fn serve(rt: &impl Host, path: &[u8], caller: Caller, command: &[u8], raw: bool) -> u64 {
-    let Asked::Granted(grant) = ask(rt, true) else {
-        return REFUSED;
+pub fn serve<'a>(
+    rt: &impl Host,
+    caller: Caller<'a>,
+    command: &[u8],
+    raw: bool,
+) -> Result<u64, Failure<'a>> {
+    let grant = ask()?;
+    let request = Request {
+        view: caller.view,
+        time: caller.time.unwrap_or(grant.time),
+        command,
     };
     let mut reply = [0u8; 128];
-    let clock = caller.clock;
-    let view = caller.view;
-    let time = time_by(clock, grant.time);
-    let tried = serve_alone(rt, grant, path, view, time, command, &mut reply);
-    let freed = let_go(true);
-    let Tried::Done(done, _) = tried else {
-        return REFUSED;
-    };
-    let answer = done.answer;
-    let status = show(rt, answer, done.write, &reply, raw, path);
-    if !freed {
-        return LOST;
-    }
-    status
+    let tried = serve_alone(rt, grant, caller.path, request, &mut reply);
+    let freed = let_go();
+    let status = show(rt, tried?, &reply, raw, caller.path);
+    Ok(if freed { status } else { LOST })
 }

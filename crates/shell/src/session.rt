@@ -1,11 +1,11 @@
 // The commands on standard input, one after the other: each is applied and answered as soon as it is whole. The lock is asked for when a command
 // is whole and not before, so that a client that sends nothing holds up nobody.
 use crate::caller::Caller;
+use crate::failure::{Failure, MALFORMED};
 use crate::host::Host;
-use crate::notice::refuse_malformed;
 use crate::serve::serve;
 use assembler::{Assembled, SIZE, assemble, command};
-use status::{DONE, REFUSED, is_open_after, status_after};
+use status::{DONE, is_open_after, status_after};
 use std::io::Read;
 use tablefile::tell;
 use terminal::Complaints;
@@ -13,157 +13,89 @@ use terminal::Complaints;
 // The most bytes of a read.
 const PIECE: usize = 4096;
 
-// Where a session stands: the bytes of the last read from `from` to `end` are not taken yet, `held` bytes of a command are, and the exit status is
-// that of the commands so far.
-#[derive(Clone, Copy)]
-struct Session {
-    from: usize,
-    end: usize,
+// Where a session stands: the first `held` bytes of `bytes` are a command's, and the exit status is that of the commands so far.
+#[derive(Drop)]
+struct Session<'a> {
+    caller: Caller<'a>,
+    bytes: [u8; SIZE],
     held: usize,
     status: u64,
 }
 
-// What a turn comes to: the session goes on, or it ends with an exit status.
-#[derive(Clone, Copy)]
-enum Next {
-    On(Session),
-    End(u64),
-}
-
-// The sum of two numbers, or the most that it may be.
-fn sum(a: usize, b: usize, most: usize) -> usize {
-    if most < a {
-        return most;
-    }
-    if most - a < b {
-        return most;
-    }
-    a + b
-}
-
-// After a piece of n bytes that are all taken and held.
-fn hold(at: Session, n: usize) -> Session {
-    Session {
-        from: at.end,
-        end: at.end,
-        held: sum(at.held, n, SIZE),
-        status: at.status,
-    }
-}
-
-// After a command that took n bytes of its piece and came to an exit status.
-fn count_in(at: Session, n: usize, status: u64) -> Next {
-    let status = status_after(at.status, status);
-    if !is_open_after(status) {
-        return Next::End(status);
-    }
-    Next::On(Session {
-        from: sum(at.from, n, at.end),
-        end: at.end,
-        held: 0,
-        status,
-    })
-}
-
-// Takes a piece up to the end of its first command, and answers that.
-fn take(
-    rt: &impl Host,
-    path: &[u8],
-    caller: Caller,
-    at: Session,
-    bytes: &mut [u8; SIZE],
-    piece: &[u8],
-) -> Next {
-    let held = at.held;
-    match assemble(bytes, held, piece) {
-        Assembled::More => Next::On(hold(at, piece.len())),
-        Assembled::Whole(n) => {
-            let status = serve(rt, path, caller, command(bytes, held, piece, n), true);
-            count_in(at, n, status)
+impl<'a> Session<'a> {
+    // Takes a piece up to the end of its first command, answers that, and gives back what is left of the piece.
+    fn take<'p>(&mut self, rt: &impl Host, piece: &'p [u8]) -> Result<&'p [u8], Failure<'a>> {
+        match assemble(&mut self.bytes, self.held, piece) {
+            Assembled::More => {
+                self.held += piece.len();
+                Ok(&[])
+            }
+            Assembled::Whole(n) => {
+                let command = command(&self.bytes, self.held, piece, n);
+                let status = serve(rt, self.caller, command, true)?;
+                self.status = status_after(self.status, status);
+                self.held = 0;
+                Ok(&piece[n..])
+            }
+            Assembled::Refused(_) => Err(MALFORMED),
         }
-        Assembled::Refused(_) => Next::End(refuse_malformed(rt)),
+    }
+
+    // Takes a piece whole, unless a command of it ends the session. Each turn takes a byte or more.
+    fn take_all(&mut self, rt: &impl Host, piece: &[u8]) -> Result<(), Failure<'a>> {
+        let mut rest = piece;
+        for _ in 0..piece.len() {
+            if rest.is_empty() || !is_open_after(self.status) {
+                break;
+            }
+            rest = self.take(rt, rest)?;
+        }
+        Ok(())
+    }
+
+    // The exit status at the end of the input: a command that is not whole is malformed.
+    fn finish(&self) -> Result<u64, Failure<'static>> {
+        if self.held == 0 {
+            Ok(self.status)
+        } else {
+            Err(MALFORMED)
+        }
     }
 }
 
-// The same for what is left of the last read.
-fn take_rest(
-    rt: &impl Host,
-    path: &[u8],
-    caller: Caller,
-    at: Session,
-    bytes: &mut [u8; SIZE],
-    buffer: &[u8; PIECE],
-) -> Next {
-    let from = at.from;
-    let end = at.end;
-    let came: &[u8] = buffer;
-    if came.len() < end {
-        return Next::End(REFUSED);
-    }
-    if end < from {
-        return Next::End(REFUSED);
-    }
-    take(rt, path, caller, at, bytes, &came[from..end])
-}
-
-// At the end of the input: a command that is not whole is malformed.
-fn finish(rt: &impl Complaints, at: Session) -> Next {
-    if at.held != 0 {
-        return Next::End(refuse_malformed(rt));
-    }
-    Next::End(at.status)
-}
-
-// Reads what has come, and waits where nothing has: so no command waits for a later one.
-fn read_more(rt: &(impl Input + Complaints), at: Session, buffer: &mut [u8; PIECE]) -> Next {
+// Reads what has come, and waits where nothing has: so no command waits for a later one. No bytes are the end of the input.
+fn read<'b>(
+    rt: &(impl Input + Complaints),
+    buffer: &'b mut [u8; PIECE],
+) -> Result<&'b [u8], Failure<'static>> {
     match rt.reader().read(buffer) {
-        Ok(0) => finish(rt, at),
-        Ok(n) => Next::On(Session {
-            from: 0,
-            end: n,
-            held: at.held,
-            status: at.status,
-        }),
+        Ok(n) => Ok(&buffer[..n]),
         Err(error) => {
             tell(rt, b"standard input", error);
-            Next::End(REFUSED)
+            Err(Failure::Told)
         }
     }
-}
-
-// Answers one command, or reads where no byte is left.
-fn turn(
-    rt: &impl Host,
-    path: &[u8],
-    caller: Caller,
-    at: Session,
-    bytes: &mut [u8; SIZE],
-    buffer: &mut [u8; PIECE],
-) -> Next {
-    if at.from < at.end {
-        return take_rest(rt, path, caller, at, bytes, buffer);
-    }
-    read_more(rt, at, buffer)
 }
 
 // Applies the commands on standard input to a table's file, and gives back the exit status. Nothing says that the input ends, and a proved loop
-// has to: so the turns are counted down from a number that no run uses up.
-pub fn serve_input(rt: &impl Host, path: &[u8], caller: Caller) -> u64 {
-    let mut bytes = [0u8; SIZE];
+// has to: so the reads are counted, up to a number that no run reaches.
+pub fn serve_input<'a>(rt: &impl Host, caller: Caller<'a>) -> Result<u64, Failure<'a>> {
     let mut buffer = [0u8; PIECE];
-    let mut at = Session {
-        from: 0,
-        end: 0,
+    let mut session = Session {
+        caller,
+        bytes: [0; SIZE],
         held: 0,
         status: DONE,
     };
-    let mut turns = u64::MAX;
-    while 0 < turns {
-        match turn(rt, path, caller, at, &mut bytes, &mut buffer) {
-            Next::On(next) => at = next,
-            Next::End(status) => return status,
+    for _ in 0..u64::MAX {
+        let piece = read(rt, &mut buffer)?;
+        if piece.is_empty() {
+            return session.finish();
         }
-        turns -= 1;
+        session.take_all(rt, piece)?;
+        if !is_open_after(session.status) {
+            break;
+        }
     }
-    at.status
+    Ok(session.status)
 }

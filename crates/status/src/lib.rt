@@ -4,6 +4,9 @@
 ghost use Rattle.std.specs.Prelude.{◌≡◌};
 ghost use Rattle.status.specs.Status.{to_write, status_of, told_status, status_after, open_after, status_between};
 
+// Exit statuses.
+// Kept: numbers and not an enum, since two of them are the same and they are told and compared as numbers.
+
 // Answered.
 pub const DONE: u64 = 0;
 
@@ -26,37 +29,29 @@ pub const LOST: u64 = 70;
 pub fn status_of(number: u32) -> u64
     ensures { result ≡ status_of number }
 {
-    if number == 0 {
-        return DONE;
+    match number {
+        0 => DONE,
+        5..=17 => ERROR,
+        _ => REFUSED,
     }
-    let has_reply = (5 <= number) & (number <= 17);
-    if has_reply {
-        return ERROR;
-    }
-    REFUSED
 }
 
 // The exit status of an answer whose reply was written or not, after a command that changed the table or not.
 pub fn status_told(written: bool, changed: bool, number: u32) -> u64
     ensures { result ≡ told_status written changed number }
 {
-    if written {
-        return status_of(number);
+    match (written, changed) {
+        (true, _) => status_of(number),
+        (false, true) => UNTOLD,
+        (false, false) => REFUSED,
     }
-    if changed {
-        return UNTOLD;
-    }
-    REFUSED
 }
 
 // The exit status of a stream of commands: the highest of theirs. `before` is that of the commands before the next one.
 pub fn status_after(before: u64, next: u64) -> u64
     ensures { result ≡ status_after before next }
 {
-    if before <= next {
-        return next;
-    }
-    before
+    before.max(next)
 }
 
 // Whether a stream goes on after a command with an exit status: not where a reply is missing, since its reader would count the later ones wrongly.
@@ -71,19 +66,16 @@ pub fn is_open_after(status: u64) -> bool
 pub fn status_between(first: bool, second: bool, len: usize) -> u64
     ensures { result ≡ status_between first second len }
 {
-    let good = first & second;
-    if !good {
-        return REFUSED;
+    match (first && second, len) {
+        (false, _) => REFUSED,
+        (true, 0) => DONE,
+        (true, _) => DIFFERENT,
     }
-    if len == 0 {
-        return DONE;
-    }
-    DIFFERENT
 }
 
 // Whether a table is to be written over its file, which has the bytes `old`, after an answer with a number.
 pub fn is_to_write(number: u32, old: &[u8], table: &[u8]) -> bool
     ensures { result ≡ to_write number old.now table.now }
 {
-    (number == 0) & !slice::same(old, table)
+    number == 0 && old != table
 }

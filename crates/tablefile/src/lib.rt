@@ -13,18 +13,17 @@ pub use replacing::replace;
 // The room for a table: one record more than it can have, so that a longer file is seen to be one.
 pub const SPACE: usize = 32896;
 
-// What became of reading a file into a buffer: how many bytes came, that there is no such file, or that it failed. Where a name is at hand, a failure was told already.
+// Why a table's file was not read: there is none, or reading it failed, which was told.
 #[derive(Clone, Copy)]
-pub enum Loaded {
-    Bytes(usize),
+pub enum NotLoaded {
     Missing,
-    Failed,
+    Told,
 }
 
-// The mode of a file, and the numbers of its owner and group; 4294967295 stands for those that a new file has by itself.
+// The mode of a file, and the numbers of its owner and group; none stands for that which a new file has by itself.
 #[derive(Clone, Copy)]
 pub struct Rights {
     pub mode: u32,
-    pub owner: u32,
-    pub group: u32,
+    pub owner: Option<u32>,
+    pub group: Option<u32>,
 }

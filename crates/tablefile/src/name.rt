@@ -21,12 +21,10 @@ pub fn put_new_name(folder: &[u8], out: &mut [u8]) -> usize
 pub fn folder(path: &[u8]) -> usize
     ensures { (result ≡ after_slash path.now) × (result ≤ length path.now) }
 {
-    let mut n = path.len();
-    while 0 < n {
-        if path[n - 1] == b'/' {
-            return n;
+    for i in (0..path.len()).rev() {
+        if path[i] == b'/' {
+            return i + 1;
         }
-        n -= 1;
     }
     0
 }

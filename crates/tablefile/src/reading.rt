@@ -1,7 +1,7 @@
 // Reading a file whole.
 ghost use Rattle.std.specs.Prelude.{◌≤◌, length, IfOk};
 
-use crate::Loaded;
+use crate::NotLoaded;
 use std::fs::File;
 use std::io::{ErrorKind, Read};
 use std::rt::Files;
@@ -16,10 +16,7 @@ pub fn tell(rt: &impl Complaints, path: &[u8], error: io::Error) {
 
 // A path as the text that names its file.
 pub(crate) fn named(path: &[u8]) -> io::Result<&str> {
-    match str::from_utf8(path) {
-        Ok(text) => Ok(text),
-        Err(_) => Err(io::Error::from(ErrorKind::InvalidFilename)),
-    }
+    str::from_utf8(path).map_err(|_| io::Error::from(ErrorKind::InvalidFilename))
 }
 
 // Opens a file to be read.
@@ -28,6 +25,7 @@ pub(crate) fn open_read<R: Files>(rt: &R, path: &[u8]) -> io::Result<R::File> {
 }
 
 // Reads a file to its end, or until the buffer is full, and gives back how many bytes came.
+// Kept: a loop of reads, since std's `read_to_end` takes a `Vec`, and `read_exact` refuses a shorter file.
 fn read_to_end(file: &mut impl Read, buf: &mut [u8]) -> io::Result<usize>
     ensures { IfOk result (λ n. n ≤ length buf.new) }
 {
@@ -35,7 +33,7 @@ fn read_to_end(file: &mut impl Read, buf: &mut [u8]) -> io::Result<usize>
     while done < buf.len() {
         let got = file.read(&mut buf[done..])?;
         if got == 0 {
-            return Ok(done);
+            break;
         }
         done += got;
     }
@@ -50,30 +48,40 @@ fn read_file(rt: &impl Files, path: &[u8], buf: &mut [u8]) -> io::Result<usize>
     read_to_end(&mut file, buf)
 }
 
-// Reads a file to its end, or until the buffer is full, and gives back how many bytes came: none where it cannot be read, and nothing is told.
-pub fn fetch(rt: &impl Files, path: &[u8], buf: &mut [u8]) -> usize {
-    read_file(rt, path, buf).unwrap_or(0)
-}
-
-// Reads a file that is open to its end, or until the buffer is full.
-fn read_whole(rt: &impl Complaints, file: &mut impl Read, path: &[u8], buf: &mut [u8]) -> Loaded {
-    match read_to_end(file, buf) {
-        Ok(n) => Loaded::Bytes(n),
-        Err(error) => {
-            tell(rt, path, error);
-            Loaded::Failed
-        }
+// Reads a file to its end, or until the buffer is full, and gives back what came: no bytes where it cannot be read, and nothing is told.
+pub fn fetch<'a>(rt: &impl Files, path: &[u8], buf: &'a mut [u8]) -> &'a [u8] {
+    match read_file(rt, path, buf) {
+        Ok(n) => &buf[..n],
+        Err(_) => &[],
     }
 }
 
-// Reads a file to its end, or until the buffer is full.
-pub fn load(rt: &(impl Files + Complaints), path: &[u8], buf: &mut [u8]) -> Loaded {
+// Tells why a file was not read.
+fn told(rt: &impl Complaints, path: &[u8], error: io::Error) -> NotLoaded {
+    tell(rt, path, error);
+    NotLoaded::Told
+}
+
+// Opens a file to be loaded.
+fn open_load<R: Files + Complaints>(rt: &R, path: &[u8]) -> Result<R::File, NotLoaded> {
     match open_read(rt, path) {
-        Ok(mut file) => read_whole(rt, &mut file, path, buf),
-        Err(error) if error.kind() == ErrorKind::NotFound => Loaded::Missing,
-        Err(error) => {
-            tell(rt, path, error);
-            Loaded::Failed
-        }
+        Ok(file) => Ok(file),
+        Err(error) if error.kind() == ErrorKind::NotFound => Err(NotLoaded::Missing),
+        Err(error) => Err(told(rt, path, error)),
+    }
+}
+
+// Reads a file to its end, or until the buffer is full, and gives back what came.
+pub fn load<'a>(
+    rt: &(impl Files + Complaints),
+    path: &[u8],
+    buf: &'a mut [u8],
+) -> Result<&'a mut [u8], NotLoaded>
+    ensures { IfOk result (λ t. length t.now ≤ length buf.old) }
+{
+    let mut file = open_load(rt, path)?;
+    match read_to_end(&mut file, buf) {
+        Ok(n) => Ok(&mut buf[..n]),
+        Err(error) => Err(told(rt, path, error)),
     }
 }

@@ -55,11 +55,8 @@ fn choose(rt: &impl RandomSource, name: &mut [u8]) -> io::Result<()>
 {
     let mut bytes = [0u8; CHOSEN];
     rt.fill_bytes(&mut bytes)?;
-    let n = name.len();
-    let mut i = 0;
-    while i < CHOSEN && i < n {
-        name[n - 1 - i] = letter(bytes[i]);
-        i += 1;
+    for (place, b) in name.iter_mut().rev().zip(bytes) {
+        *place = letter(b);
     }
     Ok(())
 }
@@ -87,13 +84,19 @@ fn make<R: Files + RandomSource>(rt: &R, name: &mut [u8]) -> io::Result<R::File>
     create(rt, name)
 }
 
-// Makes the new file in a folder, with its name at the start of a buffer.
-fn begin<R: Files + RandomSource>(rt: &R, folder: &[u8], name: &mut [u8]) -> io::Result<R::File> {
+// Makes the new file in a folder, and gives it back with its name, which is put in a buffer.
+fn begin<'a, R: Files + RandomSource>(
+    rt: &R,
+    folder: &[u8],
+    name: &'a mut [u8],
+) -> io::Result<(R::File, &'a [u8])> {
     if name.len() < NEW_SIZE || name.len() - NEW_SIZE < folder.len() {
         return Err(io::Error::from(ErrorKind::InvalidFilename));
     }
     let n = put_new_name(folder, name);
-    make(rt, &mut name[0..n])
+    let name = &mut name[..n];
+    let file = make(rt, name)?;
+    Ok((file, name))
 }
 
 // Says on standard error that a file's owner and mode cannot be kept, and why.
@@ -106,7 +109,7 @@ fn tell_rights(rt: &impl Complaints, path: &[u8], error: io::Error) {
 
 // Sets the owner, group and mode of a file.
 fn set_rights(file: &File, rights: Rights) -> io::Result<()> {
-    fchown(file, Some(rights.owner), Some(rights.group))?;
+    fchown(file, rights.owner, rights.group)?;
     file.set_permissions(Permissions::from_mode(rights.mode))
 }
 
@@ -126,30 +129,7 @@ fn sync(rt: &impl Files<File = File>, folder: &[u8]) {
 // Waits until the folder of a path knows of it.
 fn sync_folder(rt: &impl Files<File = File>, path: &[u8]) {
     let n = folder(path);
-    if n == 0 {
-        sync(rt, b".");
-    } else {
-        sync(rt, &path[0..n]);
-    }
-}
-
-// Fills the new file of a table; gives back whether it did. Where it did not, the reason is told.
-fn prepare(
-    rt: &impl Complaints,
-    file: &mut File,
-    path: &[u8],
-    rights: Rights,
-    bytes: &[u8],
-) -> bool {
-    if let Err(error) = set_rights(file, rights) {
-        tell_rights(rt, path, error);
-        return false;
-    }
-    if let Err(error) = fill(file, bytes) {
-        tell(rt, path, error);
-        return false;
-    }
-    true
+    sync(rt, if n == 0 { b"." } else { &path[..n] });
 }
 
 // Removes the new file where the table cannot be replaced.
@@ -164,73 +144,63 @@ fn rename(rt: &impl Files, new: &[u8], path: &[u8]) -> io::Result<()> {
     fs::rename(rt, named(new)?, named(path)?)
 }
 
-// Fills the new file and closes it; gives back whether it did.
-fn prepare_whole(
-    rt: &impl Complaints,
-    mut file: File,
-    path: &[u8],
+// A failure that was told.
+#[derive(Clone, Copy)]
+struct Told;
+
+// What is to stand in a table's file, and its rights.
+#[derive(Clone, Copy)]
+struct Replacement<'a> {
+    path: &'a [u8],
     rights: Rights,
-    bytes: &[u8],
-) -> bool {
-    prepare(rt, &mut file, path, rights, bytes)
+    bytes: &'a [u8],
 }
 
-// Fills the new file, closes it and renames it over the table; gives back whether it did. Where it did not, the new file is removed.
-fn finish<R: Files<File = File> + Complaints>(
-    rt: &R,
-    file: File,
-    new: &[u8],
-    path: &[u8],
-    rights: Rights,
-    bytes: &[u8],
-) -> bool {
-    if !prepare_whole(rt, file, path, rights, bytes) {
-        remove(rt, new);
-        return false;
-    }
-    if let Err(error) = rename(rt, new, path) {
-        tell(rt, path, error);
-        remove(rt, new);
-        return false;
-    }
-    sync_folder(rt, path);
-    true
-}
-
-// The same with the new file's name in the first n bytes of a buffer.
-fn finish_first<R: Files<File = File> + Complaints>(
-    rt: &R,
-    file: File,
-    buffer: &[u8; 4096],
-    n: usize,
-    path: &[u8],
-    rights: Rights,
-    bytes: &[u8],
-) -> bool {
-    let name: &[u8] = buffer;
-    if n <= name.len() {
-        return finish(rt, file, &name[0..n], path, rights, bytes);
-    }
-    false
-}
-
-// Replaces the table by way of a new file in its folder.
-fn replace_in<R: Files<File = File> + RandomSource + Complaints>(
-    rt: &R,
-    folder: &[u8],
-    path: &[u8],
-    rights: Rights,
-    bytes: &[u8],
-) -> bool {
-    let mut name = [0u8; 4096];
-    match begin(rt, folder, &mut name) {
-        Ok(file) => {
-            let n = folder.len() + NEW_SIZE;
-            finish_first(rt, file, &name, n, path, rights, bytes)
+impl Replacement<'_> {
+    // Fills the new file and closes it.
+    fn prepare(&self, rt: &impl Complaints, mut file: File) -> Result<(), Told> {
+        if let Err(error) = set_rights(&file, self.rights) {
+            tell_rights(rt, self.path, error);
+            return Err(Told);
         }
-        Err(error) => {
-            tell(rt, path, error);
-            false
+        self.or_tell(rt, fill(&mut file, self.bytes))
+    }
+
+    // What became of a call, of which a failure is told.
+    fn or_tell(&self, rt: &impl Complaints, done: io::Result<()>) -> Result<(), Told> {
+        done.map_err(|error| {
+            tell(rt, self.path, error);
+            Told
+        })
+    }
+
+    // Fills the new file, closes it and renames it over the table.
+    fn finish<R: Files<File = File> + Complaints>(
+        &self,
+        rt: &R,
+        file: File,
+        new: &[u8],
+    ) -> Result<(), Told> {
+        self.prepare(rt, file)?;
+        self.or_tell(rt, rename(rt, new, self.path))
+    }
+
+    // Replaces the table by way of a new file in its folder, which is removed where that fails.
+    fn replace_in<R: Files<File = File> + RandomSource + Complaints>(
+        &self,
+        rt: &R,
+        folder: &[u8],
+    ) -> Result<(), Told> {
+        let mut buffer = [0u8; 4096];
+        match begin(rt, folder, &mut buffer) {
+            Ok((file, new)) => {
+                let done = self.finish(rt, file, new);
+                if done.is_err() {
+                    remove(rt, new);
+                }
+                done
+            }
+            Err(error) => self.or_tell(rt, Err(error)),
         }
     }
 }
@@ -245,6 +215,15 @@ pub fn replace<R: Files<File = File> + RandomSource + Complaints>(
     if !is_writable(rt, path) {
         return false;
     }
+    let replacement = Replacement {
+        path,
+        rights,
+        bytes,
+    };
     let n = folder(path);
-    replace_in(rt, &path[0..n], path, rights, bytes)
+    let done = replacement.replace_in(rt, &path[..n]).is_ok();
+    if done {
+        sync_folder(rt, path);
+    }
+    done
 }

@@ -1,1 +1,1 @@
-pub mod Escapes
+pub mod Numerals

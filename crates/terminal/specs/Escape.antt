@@ -1,10 +1,10 @@
 -- Bytes as they stand between quotes: a backslash and a letter, or \x and two hexadecimal digits, for a byte that does not print.
-use Rattle.std.specs.Prelude.{ℕ, ◌+◌, ◌/◌, ◌%◌, Bool, cond, ◌&&◌, List, [], ◌∷◌, ◌++◌, leb, ltb, eqb}
+use Rattle.std.specs.Prelude.{ℕ, ◌+◌, ◌/◌, ◌%◌, Bool, cond, ◌&&◌, Option, None, Some, List, [], ◌∷◌, flat_map, leb, ltb, eqb}
 
--- a byte that has a letter of its own, and that letter: " \ \n \r \t \a \b; 0 for any other byte
-unfoldable pub letter : ℕ → ℕ
+-- the letter of a byte that has one of its own: " \ \n \r \t \a \b
+unfoldable pub letter : ℕ → Option ℕ
 letter b =
-    cond (eqb b 34) 34 (cond (eqb b 92) 92 (cond (eqb b 10) 110 (cond (eqb b 13) 114 (cond (eqb b 9) 116 (cond (eqb b 7) 97 (cond (eqb b 8) 98 0))))))
+    cond (eqb b 34) (Some 34) (cond (eqb b 92) (Some 92) (cond (eqb b 10) (Some 110) (cond (eqb b 13) (Some 114) (cond (eqb b 9) (Some 116) (cond (eqb b 7) (Some 97) (cond (eqb b 8) (Some 98) None))))))
 
 -- the ASCII bytes from the blank to the tilde
 abbrev pub prints : ℕ → Bool
@@ -18,9 +18,13 @@ hex_digit d = cond (ltb d 10) (48 + d) (87 + d)
 abbrev pub plain : ℕ → List ℕ
 plain b = cond (prints b) (b ∷ []) (92 ∷ 120 ∷ hex_digit (b / 16) ∷ hex_digit (b % 16) ∷ [])
 
-unfoldable pub escaped : ℕ → List ℕ
-escaped b = cond (eqb (letter b) 0) (plain b) (92 ∷ letter b ∷ [])
+-- a byte by its letter, or without one
+abbrev pub escaped_by : Option ℕ → ℕ → List ℕ
+escaped_by (Some c) b = 92 ∷ c ∷ []
+escaped_by None b = plain b
 
-unfoldable pub escaped_all : List ℕ → List ℕ
-escaped_all [] = []
-escaped_all (b ∷ s) = escaped b ++ escaped_all s
+unfoldable pub escaped : ℕ → List ℕ
+escaped b = escaped_by (letter b) b
+
+abbrev pub escaped_all : List ℕ → List ℕ
+escaped_all s = flat_map escaped s

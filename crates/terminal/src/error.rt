@@ -1,7 +1,6 @@
 // Why a call on a file or an output failed, in the C library's words.
 ghost use Rattle.std.specs.Prelude.{◌≤◌, length};
 
-use crate::page::add;
 use crate::text::{Complaints, complain};
 use std::fmt::Write;
 use std::{fmt, io};
@@ -9,48 +8,39 @@ use std::{fmt, io};
 // The room for a reason.
 const ROOM: usize = 256;
 
-// A text that is put together from parts.
+// A text that is put together from parts. One that passes the room is dropped whole.
+// Kept: a buffer with a length, since a text on the heap could fail, and what is told here cannot.
 #[derive(Drop)]
 struct Reason {
     bytes: [u8; ROOM],
     len: usize,
+    ghost within: { len ≤ 256 },
+}
+
+impl Reason {
+    fn text(&self) -> &[u8] {
+        &self.bytes[..self.len]
+    }
 }
 
 impl Write for Reason {
     fn write_str(&mut self, part: &str) -> fmt::Result {
-        self.len = add(&mut self.bytes, self.len, part.as_bytes());
+        let part = part.as_bytes();
+        if ROOM - self.len < part.len() {
+            return Err(fmt::Error);
+        }
+        let end = self.len + part.len();
+        self.bytes[self.len..end].copy_from_slice(part);
+        self.len = end;
         Ok(())
     }
 }
 
-// Where the number of the error begins, which stands in brackets behind its words; the text's length where there is none.
-fn before_number(text: &[u8]) -> usize
-    ensures { result ≤ length text.now }
-{
-    let mut i = text.len();
-    while 1 < i {
-        i -= 1;
-        if text[i] == b'(' {
-            return i - 1;
-        }
-    }
-    text.len()
-}
-
-// Writes the words of a reason, without the number of the system's error.
-fn complain_words(rt: &impl Complaints, text: &[u8], is_of_system: bool) {
-    if is_of_system {
-        complain(rt, &text[0..before_number(text)]);
-    } else {
-        complain(rt, text);
-    }
-}
-
-// The same for the first n bytes of a buffer.
-fn complain_first(rt: &impl Complaints, buffer: &[u8; ROOM], n: usize, is_of_system: bool) {
-    let text: &[u8] = buffer;
-    if n <= text.len() {
-        complain_words(rt, &text[0..n], is_of_system);
+// A reason without the number of the system's error, which stands in brackets behind its words.
+fn words(text: &[u8]) -> &[u8] {
+    match text.iter().rposition(|b| *b == b'(') {
+        Some(i) if 0 < i => &text[..i - 1],
+        _ => text,
     }
 }
 
@@ -62,8 +52,10 @@ pub fn complain_error(rt: &impl Complaints, what: &[u8], error: io::Error) {
         bytes: [0u8; ROOM],
         len: 0,
     };
-    let _ = write!(reason, "{error}");
-    let Reason { bytes, len } = reason;
-    complain_first(rt, &bytes, len, error.raw_os_error().is_some());
+    if write!(reason, "{error}").is_ok() {
+        let text = reason.text();
+        let is_of_system = error.raw_os_error().is_some();
+        complain(rt, if is_of_system { words(text) } else { text });
+    }
     complain(rt, b"\n");
 }

@@ -4,13 +4,13 @@
 mod digits;
 mod error;
 mod escape;
-mod page;
+mod numeral;
 mod printed;
 mod text;
 
-pub use digits::{decimal, print_decimal};
+pub use digits::decimal;
 pub use error::complain_error;
-pub use escape::add_quoted;
-pub use page::{PAGE, add, add_decimal, add_natural, print_page};
+pub use escape::Quoted;
+pub use numeral::Decimal;
 pub use printed::print_reply;
-pub use text::{Complaints, complain, complain_decimal, find, print, print_natural, print_number};
+pub use text::{Complaints, complain, complain_text, print};

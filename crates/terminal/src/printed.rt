@@ -1,233 +1,127 @@
-// A RESP2 reply, printed as redis-cli prints it, in one write. Where the bytes are no RESP2, a place in them is given back as 0.
-ghost use Rattle.std.specs.Prelude.{◌≤◌, length};
-
-use crate::escape::add_quoted;
-use crate::page::{PAGE, add, add_natural, print_page};
-use crate::text::find;
+// A RESP2 reply, printed as redis-cli prints it, in one write.
+use crate::escape::Quoted;
+use crate::numeral::Decimal;
 use std::io;
+use std::io::Write;
 
-// How far a reply is read, and how far its page is filled.
+// An item of a reply that is no array.
 #[derive(Clone, Copy)]
-struct Step {
-    next: usize,
-    at: usize,
+enum Item<'a> {
+    Simple(&'a [u8]),
+    Error(&'a [u8]),
+    Integer(&'a [u8]),
+    Bulk(&'a [u8]),
+    Nil,
 }
 
-// The place after the CR LF that stands at a place of a reply, or 0 where it does not stand there.
-fn after_line(reply: &[u8], end: usize) -> usize
-    ensures { result ≤ length reply.now }
-{
-    if reply.len() < 2 {
-        return 0;
-    }
-    if reply.len() - 2 < end {
-        return 0;
-    }
-    if reply[end] != b'\r' {
-        return 0;
-    }
-    if reply[end + 1] != b'\n' {
-        return 0;
-    }
-    end + 2
+// The line that a text begins with, and what follows its CR LF.
+fn split_line(s: &[u8]) -> Option<(&[u8], &[u8])> {
+    let end = s.iter().position(|b| *b == b'\r')?;
+    let rest = s[end..].strip_prefix(b"\r\n")?;
+    Some((&s[..end], rest))
 }
 
-// The digit that a byte is, or 10 where it is none.
-fn digit(b: u8) -> usize
-    ensures { result ≤ 10 }
-{
-    if b < b'0' {
-        return 10;
+// The bulk string, or nil, whose length is a line, and what follows it.
+fn read_bulk<'a>(len: &[u8], s: &'a [u8]) -> Option<(Item<'a>, &'a [u8])> {
+    if let b"-1" = len {
+        return Some((Item::Nil, s));
     }
-    if b'9' < b {
-        return 10;
-    }
-    (b - b'0') as usize
+    let n = number::read_version(len)?;
+    let (text, rest) = s.split_at_checked(n as usize)?;
+    Some((Item::Bulk(text), rest.strip_prefix(b"\r\n")?))
 }
 
-// The number that a text of at most three digits is, or 1000.
-fn number(text: &[u8]) -> usize
-    ensures { result ≤ 1000 }
-{
-    let mut n = 0;
-    let mut i = 0;
-    while i < text.len() {
-        let d = digit(text[i]);
-        if d == 10 {
-            return 1000;
+// The item that a reply begins with, and what follows it.
+fn read_item(reply: &[u8]) -> Option<(Item<'_>, &[u8])> {
+    let (kind, rest) = reply.split_first()?;
+    let (line, rest) = split_line(rest)?;
+    match kind {
+        b'$' => read_bulk(line, rest),
+        b'+' => Some((Item::Simple(line), rest)),
+        b'-' => Some((Item::Error(line), rest)),
+        b':' => Some((Item::Integer(line), rest)),
+        _ => None,
+    }
+}
+
+// Adds an item to a page.
+fn add_item(page: &mut Vec<u8>, item: Item<'_>) -> io::Result<()> {
+    match item {
+        Item::Simple(text) => page.write_all(text),
+        Item::Error(text) => {
+            page.write_all(b"(error) ")?;
+            page.write_all(text)
         }
-        if 99 < n {
-            return 1000;
+        Item::Integer(text) => {
+            page.write_all(b"(integer) ")?;
+            page.write_all(text)
         }
-        n = n * 10 + d;
-        i += 1;
-    }
-    n
-}
-
-// Whether a text is `-1`, the length of the nil reply.
-fn is_nil(text: &[u8]) -> bool {
-    if text.len() == 2 {
-        text[0] == b'-' && text[1] == b'1'
-    } else {
-        false
+        Item::Bulk(text) => write!(page, "{}", Quoted(text)),
+        Item::Nil => page.write_all(b"(nil)"),
     }
 }
 
-// Adds the text of n bytes that stands at a place, in quotes; it is read to after its CR LF.
-fn add_bulk(page: &mut [u8], at: usize, reply: &[u8], start: usize, n: usize) -> Step
-    requires { start ≤ length reply.now }
-{
-    if reply.len() - start < n {
-        return Step { next: 0, at };
+// Adds an item of an array with its number. The empty simple string has no blank before it.
+fn add_numbered(page: &mut Vec<u8>, i: usize, item: Item<'_>) -> io::Result<()> {
+    write!(page, "{})", Decimal(i as u64))?;
+    if !matches!(item, Item::Simple([])) {
+        page.write_all(b" ")?;
     }
-    let end = start + n;
-    let filled = add_quoted(page, at, &reply[start..end]);
-    Step {
-        next: after_line(reply, end),
-        at: filled,
-    }
+    add_item(page, item)?;
+    page.write_all(b"\n")
 }
 
-// What redis-cli puts before an item of one line.
-fn add_kind(page: &mut [u8], at: usize, kind: u8) -> usize {
-    if kind == b'-' {
-        return add(page, at, b"(error) ");
-    }
-    if kind == b':' {
-        return add(page, at, b"(integer) ");
-    }
-    at
-}
-
-// Whether an item of a kind is one line.
-fn is_line(kind: u8) -> bool {
-    kind == b'-' || kind == b':' || kind == b'+'
-}
-
-// Adds the bulk string, or nil, whose length stands from `start` to `end`, and whose bytes stand at `next`.
-fn add_text(page: &mut [u8], at: usize, reply: &[u8], start: usize, end: usize, next: usize) -> Step
-    requires { (start ≤ end) × (end ≤ length reply.now) × (next ≤ length reply.now) }
-{
-    if is_nil(&reply[start..end]) {
-        return Step {
-            next,
-            at: add(page, at, b"(nil)"),
+// Adds the items of an array, and gives back what follows it; none where an item cannot be read.
+fn add_items<'a>(
+    page: &mut Vec<u8>,
+    count: usize,
+    items: &'a [u8],
+) -> io::Result<Option<&'a [u8]>> {
+    let mut rest = items;
+    for i in 0..count {
+        let Some((item, after)) = read_item(rest) else {
+            return Ok(None);
         };
+        add_numbered(page, i + 1, item)?;
+        rest = after;
     }
-    add_bulk(page, at, reply, next, number(&reply[start..end]))
+    Ok(Some(rest))
 }
 
-// Adds the item that begins at a place and is no array.
-fn add_item(page: &mut [u8], at: usize, reply: &[u8], from: usize) -> Step {
-    if reply.len() <= from {
-        return Step { next: 0, at };
-    }
-    let start = from + 1;
-    let end = find(reply, start, b'\r');
-    let next = after_line(reply, end);
-    if next == 0 {
-        return Step { next: 0, at };
-    }
-    let kind = reply[from];
-    if kind == b'$' {
-        return add_text(page, at, reply, start, end, next);
-    }
-    if !is_line(kind) {
-        return Step { next: 0, at };
-    }
-    let filled = add_kind(page, at, kind);
-    Step {
-        next,
-        at: add(page, filled, &reply[start..end]),
-    }
-}
-
-// Adds the number of an item that stands at a place. The empty simple string has no blank before it.
-fn add_place(page: &mut [u8], at: usize, reply: &[u8], from: usize, i: usize) -> usize {
-    let filled = add_natural(page, at, b"", i as u64);
-    if is_empty_string(reply, from) {
-        return add(page, filled, b")");
-    }
-    add(page, filled, b") ")
-}
-
-// Adds one item of an array with its number.
-fn add_numbered(page: &mut [u8], at: usize, reply: &[u8], from: usize, i: usize) -> Step {
-    let filled = add_place(page, at, reply, from, i);
-    let step = add_item(page, filled, reply, from);
-    Step {
-        next: step.next,
-        at: add(page, step.at, b"\n"),
-    }
-}
-
-// Whether the empty simple string stands at a place.
-fn is_empty_string(reply: &[u8], at: usize) -> bool {
-    if reply.len() < 2 {
-        return false;
-    }
-    if reply.len() - 2 < at {
-        return false;
-    }
-    reply[at] == b'+' && reply[at + 1] == b'\r'
-}
-
-// Adds the items of an array of less than ten.
-fn add_array(page: &mut [u8], reply: &[u8]) -> Step {
-    if reply.len() < 2 {
-        return Step { next: 0, at: 0 };
-    }
-    let count = digit(reply[1]);
-    let next = after_line(reply, 2);
-    if count == 0 {
-        return Step {
-            next,
-            at: add(page, 0, b"(empty array)\n"),
-        };
-    }
-    let mut step = Step { next, at: 0 };
-    let mut i = 0;
-    while i < count {
-        if step.next == 0 {
-            return step;
+// Adds an array of less than ten items, and gives back what follows it.
+fn add_array<'a>(page: &mut Vec<u8>, array: &'a [u8]) -> io::Result<Option<&'a [u8]>> {
+    match split_line(array) {
+        Some((b"0", rest)) => {
+            page.write_all(b"(empty array)\n")?;
+            Ok(Some(rest))
         }
-        i += 1;
-        step = add_numbered(page, step.at, reply, step.next, i);
-    }
-    step
-}
-
-// Adds an array, or an item by itself.
-fn add_whole(page: &mut [u8], reply: &[u8]) -> Step {
-    if reply.len() == 0 {
-        return Step { next: 0, at: 0 };
-    }
-    if reply[0] == b'*' {
-        return add_array(page, reply);
-    }
-    let step = add_item(page, 0, reply, 0);
-    Step {
-        next: step.next,
-        at: add(page, step.at, b"\n"),
+        Some(([digit @ b'1'..=b'9'], rest)) => add_items(page, (*digit - b'0') as usize, rest),
+        _ => Ok(None),
     }
 }
 
-// Adds a reply, and says so where it is no RESP2 or bytes are left after it. Gives back how far the page is filled.
-fn add_reply(page: &mut [u8], reply: &[u8]) -> usize {
-    let step = add_whole(page, reply);
-    if step.next == reply.len() {
-        return step.at;
+// Adds an array, or an item by itself, and gives back what follows it; none where the reply is no RESP2.
+fn add_reply<'a>(page: &mut Vec<u8>, reply: &'a [u8]) -> io::Result<Option<&'a [u8]>> {
+    if let [b'*', array @ ..] = reply {
+        return add_array(page, array);
     }
-    add(page, step.at, b"malformed reply\n")
+    let Some((item, rest)) = read_item(reply) else {
+        return Ok(None);
+    };
+    add_item(page, item)?;
+    page.write_all(b"\n")?;
+    Ok(Some(rest))
 }
 
-// Prints a reply as redis-cli does, in one write. A reply of no bytes prints nothing.
-pub fn print_reply(rt: &impl Print, reply: &[u8]) -> io::Result<()> {
-    if reply.len() == 0 {
+// Prints a reply as redis-cli does, in one write, and says so where it is no RESP2 or bytes are left after it. A reply of no bytes prints nothing.
+pub fn print_reply(rt: &(impl Print + AllocGlobal), reply: &[u8]) -> io::Result<()> {
+    if reply.is_empty() {
         return Ok(());
     }
-    let mut page = [0u8; PAGE];
-    let n = add_reply(&mut page, reply);
-    print_page(rt, &page, n)
+    let mut page = Vec::new(rt.alloc());
+    match add_reply(&mut page, reply)? {
+        Some([]) => {}
+        _ => page.write_all(b"malformed reply\n")?,
+    }
+    rt.write_all(&page)
 }

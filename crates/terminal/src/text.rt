@@ -1,8 +1,6 @@
-// Bytes of text: written to standard output or standard error, and searched.
-ghost use Rattle.std.specs.Prelude.{◌≤◌, length};
-
-use crate::digits::{decimal, print_decimal};
-use std::io;
+// Bytes and text, written to standard output or standard error.
+use std::fmt::{Display, Write};
+use std::{fmt, io};
 
 // Standard error, which takes bytes that need not be text.
 pub trait Complaints {
@@ -16,46 +14,28 @@ impl Complaints for HostRuntime {
     }
 }
 
-// Writes text to standard output.
+// Standard error as a writer of formatted text.
+#[derive(Drop)]
+struct Complaint<'a, R>(&'a R);
+
+impl<R: Complaints> Write for Complaint<'_, R> {
+    fn write_str(&mut self, part: &str) -> fmt::Result {
+        self.0.complain(part.as_bytes());
+        Ok(())
+    }
+}
+
+// Writes bytes to standard output.
 pub fn print(rt: &impl Print, text: &[u8]) -> io::Result<()> {
     rt.write_all(text)
 }
 
-// Writes text to standard error.
+// Writes bytes to standard error.
 pub fn complain(rt: &impl Complaints, text: &[u8]) {
     rt.complain(text);
 }
 
-// Writes n to standard error.
-pub fn complain_decimal(rt: &impl Complaints, n: u64) {
-    let mut digits = [0u8; 20];
-    let k = decimal(n, &mut digits);
-    rt.complain(&digits[..k]);
-}
-
-// Writes text and n.
-pub fn print_natural(rt: &impl Print, text: &[u8], n: u64) -> io::Result<()> {
-    print(rt, text)?;
-    print_decimal(rt, n)
-}
-
-// Writes text and n on a line of their own.
-pub fn print_number(rt: &impl Print, text: &[u8], n: u64) -> io::Result<()> {
-    print_natural(rt, text, n)?;
-    print(rt, b"\n")
-}
-
-// The place of the first byte of s that is wanted, from `from` on, or s's length where none is.
-pub fn find(s: &[u8], from: usize, wanted: u8) -> usize
-    requires { from ≤ length s.now }
-    ensures { (from ≤ result) × (result ≤ length s.now) }
-{
-    let mut i = from;
-    while i < s.len() {
-        if s[i] == wanted {
-            return i;
-        }
-        i += 1;
-    }
-    i
+// Writes text to standard error.
+pub fn complain_text(rt: &impl Complaints, text: impl Display + Drop) {
+    let _ = write!(Complaint(rt), "{text}");
 }

@@ -1,9 +1,0 @@
--- What is left of the text falls; `put` tests the room.
-use Rattle.std.proofs.Common.{◌-◌, ◌≤◌, length}
-use Rattle.sessions.proofs.compose.put_text.Given as goal
-
-abbrev pub invariant-loop-i : goal.invariant-loop-i
-invariant-loop-i l = l.i ≤ length l.text
-
-abbrev pub decreases-loop-i : goal.decreases-loop-i
-decreases-loop-i l = length l.text - l.i
