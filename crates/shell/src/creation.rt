@@ -1,6 +1,4 @@
 // A new table.
-ghost use Rattle.std.specs.Prelude.{◌≤◌};
-
 use crate::failure::Failure;
 use crate::host::Host;
 use crate::keeper::{Grant, ask, let_go};
@@ -8,10 +6,14 @@ use record::Form;
 use status::DONE;
 use tablefile::{NotLoaded, SPACE, load, replace};
 
-// Writes a table of empty records.
-fn make(rt: &impl Host, path: &[u8], grant: Grant, records: u64) -> Result<u64, Failure<'static>>
-    requires { records ≤ 256 }
-{
+// The most records.
+const MOST: u64 = 256;
+
+// Writes a table of empty records. More than a table can have were told where their number was read.
+fn make(rt: &impl Host, path: &[u8], grant: Grant, records: u64) -> Result<u64, Failure<'static>> {
+    if MOST < records {
+        return Err(Failure::Told);
+    }
     let zeros = [0u8; SPACE];
     let size = records as usize * record::size(Form::Of128);
     if replace(rt, path, grant.rights, &zeros[..size]) {
@@ -26,9 +28,7 @@ fn init_alone<'a>(
     path: &'a [u8],
     grant: Grant,
     records: u64,
-) -> Result<u64, Failure<'a>>
-    requires { records ≤ 256 }
-{
+) -> Result<u64, Failure<'a>> {
     let mut table = [0u8; SPACE];
     match load(rt, path, &mut table) {
         Ok(_) => Err(Failure::File(path, "is there already")),
@@ -38,9 +38,7 @@ fn init_alone<'a>(
 }
 
 // Makes a new table.
-pub(crate) fn init<'a>(rt: &impl Host, path: &'a [u8], records: u64) -> Result<u64, Failure<'a>>
-    requires { records ≤ 256 }
-{
+pub fn init<'a>(rt: &impl Host, path: &'a [u8], records: u64) -> Result<u64, Failure<'a>> {
     let grant = ask()?;
     let made = init_alone(rt, path, grant, records);
     let_go();
