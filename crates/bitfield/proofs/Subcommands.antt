@@ -1,30 +1,26 @@
 -- The subcommands by value, one by one.
 use mathlib.Core.Path.{◌≡◌, refl, sym, ap, ◌∙◌, subst}
-use mathlib.Core.Bool.{Bool, true, false, and-false}
-use mathlib.Core.List.{List, [], ◌∷◌, map}
+use mathlib.Core.Bool.{true, false}
+use mathlib.Core.List.{List, [], ◌∷◌}
 use mathlib.Core.Option.{Option, none, some}
-use Prim.Native.Nat.{ℕ, zero, suc, ◌+◌, ◌*◌, ◌≤◌, ◌<◌}
+use Prim.Native.Nat.{ℕ, zero, suc, ◌+◌, ◌-◌, ◌*◌, ◌≤◌, ◌<◌}
 use native.Mathlib.Numerals.{add-one}
 use native.Mathlib.Omega.{arith}
-use lib.ListN.{length, get_or, take, drop, drop_of_length-le, length-map}
-use lib.Seq.{drop-cons, length-take-le}
-use Rattle.std.specs.List.{AllWithin, HoldsAt}
-use Rattle.std.specs.Bool.{MatchBool}
+use lib.ListN.{length}
 use lib.Dec.{leb}
 use lib.IntN.{ℤ, ◌+ℤ◌}
 use borrow.Author.Tests.{leb-true, le-leb}
-use Rattle.model.specs.Field.{Field, end_bit, get_field, set_field}
+use Rattle.model.specs.Field.{is_int_type, Field, end_bit, get_field, set_field}
 use Rattle.model.specs.Overflow.{overflow}
 use Rattle.model.specs.Bitfield as model
 use Rattle.model.specs.Bitfield.{ends_within, all_end_within, run_sub}
-use Rattle.model.proofs.Basics.{All, and_left, and_right}
+use Rattle.model.proofs.Basics.{and_left, and_right}
 use Rattle.model.proofs.Runs.{Typed}
-use Rattle.command.specs.Subcommand.{model_field, model_mode, model_operation, model_sub, model_subs}
+use Rattle.command.specs.Subcommand.{model_int, model_field, model_mode, model_operation, model_sub, sub_at, subs_from, model_subs}
 use Rattle.command.specs.declared.subcommand.Operation.{Operation}
 use Rattle.command.specs.declared.subcommand.Operation.TheVariants.{Get, Set, Incrby}
 use Rattle.command.specs.declared.subcommand.Sub.{Sub}
 use Rattle.command.specs.declared.subcommand.Subs.{Subs}
-use Rattle.command.specs.declared.subcommand.Field as code
 use Rattle.command.specs.declared.subcommand.Mode.{Mode}
 use Rattle.bitfield.specs.Run.{Holds, Leaves}
 use Rattle.std.specs.Prelude.{Some, None}
@@ -32,57 +28,28 @@ use Rattle.bitfield.specs.declared.Done.{Done}
 
 -- ---- one after the other
 
--- the subcommands of a command from place i on
-abbrev pub subs_from : Subs → (i : ℕ) → List model.Sub
-subs_from s i = map model_sub (drop i (take s.count s.list))
+-- from place i on there is one, where fewer than `count` are passed
+pub subs-next : (s : Subs) (i : ℕ) {count : ℕ} → i < count → subs_from s i (count - i) ≡ model_sub (sub_at s i) ∷ subs_from s (i + 1) (count - (i + 1))
+subs-next s i {count} h =
+    let e : count - i ≡ suc (count - (i + 1)) = omega arith in
+    ap (subs_from s i) e ∙ ap (λ (j : ℕ). model_sub (sub_at s i) ∷ subs_from s j (count - (i + 1))) (sym (add-one i))
 
--- there is one, where one is left
-pub subs-next : (s : Subs) (i : ℕ) (x : Sub) → i < length (take s.count s.list) → x ≡ get_or (take s.count s.list) i x → subs_from s i ≡ model_sub x ∷ subs_from s (i + 1)
-subs-next s i x h e = rw (add-one, drop-cons (take s.count s.list) i x, ← e) refl
+pub subs-none : (s : Subs) (i : ℕ) {count : ℕ} → count ≤ i → subs_from s i (count - i) ≡ []
+subs-none s i {count} h = let e : count - i ≡ 0 = omega arith in ap (subs_from s i) e
 
-pub subs-none : (s : Subs) (i : ℕ) → length (take s.count s.list) ≤ i → subs_from s i ≡ []
-subs-none s i h = rw (drop_of_length-le (take s.count s.list) h) refl
+length_from : (s : Subs) (i n : ℕ) → length (subs_from s i n) ≡ n
+length_from s i zero = refl
+length_from s i (suc n) = ap suc (length_from s (suc i) n)
 
--- as many as are counted, in a list of four
-pub length-subs : (s : Subs) → length s.list ≡ 4 → length (model_subs s) ≡ s.count
+pub length-subs : (s : Subs) → length (model_subs s) ≡ s.count
 unfolding model_subs
-length-subs s h = length-map (take s.count s.list) model_sub ∙ length-take-le s.count s.list (omega (arith, s.few))
-
--- each is of a type that is known
-pub typed-subs : (s : Subs) → All Typed (model_subs s)
-unfolding model_subs
-typed-subs s = go (take s.count s.list)
-  where
-    typed : (f : code.Field) (o : Operation) (z : ℤ) → Typed (model_operation o (model_field f) z)
-    typed f Get z = f.int.known
-    typed f Set z = f.int.known
-    typed f (Incrby m) z = f.int.known
-
-    go : (xs : List Sub) → All Typed (map model_sub xs)
-    go [] = tt
-    go (x ∷ xs) = (typed x.field x.operation x.number, go xs)
+length-subs s = length_from s 0 s.count
 
 -- ---- where a field ends
 
 -- the field of a subcommand
 abbrev pub at : Sub → Field
 at s = model_field s.field
-
--- all end within n bytes, or one does not
-module _ (n : ℕ) where
-  all-end : (xs : List Sub) → AllWithin (λ s. ends_within n (model_sub s) ≡ true) xs 0 (length xs) → all_end_within n (map model_sub xs) ≡ true
-  all-end [] h = refl
-  all-end (x ∷ xs) h = rw (h 0 x (omega arith) (omega arith)) (all-end xs (λ k d l u. h (suc k) d (omega arith) (omega arith)))
-
-  one-past : (k : ℕ) (xs : List Sub) → k < length xs → HoldsAt (λ s. ends_within n (model_sub s) ≡ false) xs k → all_end_within n (map model_sub xs) ≡ false
-  one-past k [] l h = absurd (omega arith)
-  one-past zero (x ∷ xs) l h = rw (h x)
-  one-past (suc k) (x ∷ xs) l h = rw (one-past k xs (omega arith) h) (and-false (ends_within n (model_sub x)))
-
-  pub ends-told : (xs : List Sub) (r : Bool) → MatchBool r (AllWithin (λ s. ends_within n (model_sub s) ≡ true) xs 0 (length xs))
-      ((k : ℕ) × (k < length xs) × HoldsAt (λ s. ends_within n (model_sub s) ≡ false) xs k) → r ≡ all_end_within n (map model_sub xs)
-  ends-told xs true h = sym (all-end xs h)
-  ends-told xs false h = sym (one-past h.0 xs h.1 h.2)
 
 -- what ends within n bytes ends within more
 pub all-end-more : (n m : ℕ) (ss : List model.Sub) → n ≤ m → all_end_within n ss ≡ true → all_end_within m ss ≡ true
@@ -136,3 +103,13 @@ module _ (s : Sub) (v : List ℕ) {n : ℕ} {b : List ℕ} where
       → Leaves (run_sub (model_sub s) v) n b r
   unfolding run_sub
   sum-leaves e p q h = leaves-as e (rw q (stored-as p p h))
+
+-- ---- what its field keeps to
+
+pub typed-field : (s : Sub) → Typed (model_sub s) → is_int_type (model_int s.field.int) ≡ true
+typed-field s = go s.operation
+  where
+    go : (o : Operation) → Typed (model_operation o (model_field s.field) s.number) → is_int_type (model_int s.field.int) ≡ true
+    go Get t = t
+    go Set t = t
+    go (Incrby m) t = t

@@ -5,11 +5,13 @@
 ghost use Rattle.std.specs.Prelude.{◌≡◌, ◌+◌, ◌*◌, ◌≤◌, true, length, take, replicate};
 ghost use Rattle.std.proofs.Math.Option.{some};
 ghost use Rattle.outcome.specs.Outcome.{to_model};
-ghost use Rattle.model.specs.Field.{end_bit, set_field};
+ghost use Rattle.model.specs.Field.{is_int_type, end_bit, set_field};
 ghost use Rattle.model.specs.Bitfield.{ends_within, all_end_within, stored, run_sub, run_subs, result_scalar};
 ghost use Rattle.model.specs.Resp.{scalar_bytes};
+ghost use Rattle.model.proofs.Basics.{All};
+ghost use Rattle.model.proofs.Runs.{Typed};
 ghost use Rattle.slice.specs.Wrote.{Wrote};
-ghost use Rattle.command.specs.Subcommand.{model_field, model_sub, model_subs};
+ghost use Rattle.command.specs.Subcommand.{model_int, model_field, model_sub, sub_at, model_subs};
 ghost use Rattle.live.specs.Under.{Sound, shape_of};
 ghost use Rattle.bitfield.specs.Run.{stored_value, Holds, Clean, Leaves, LeavesAll};
 
@@ -32,6 +34,13 @@ pub struct Ran {
     pub end: usize,
 }
 
+// Subcommand `i`; past the fourth place the fourth stands again.
+fn sub_at(subs: &Subs, i: usize) -> Sub
+    ensures { result ≡ sub_at subs.now i }
+{
+    subs.list[i.min(3)]
+}
+
 // Whether a subcommand's field ends within so many bytes. GET may read anywhere.
 fn ends_within(sub: Sub, limit: usize) -> bool
     requires { limit ≤ 128 }
@@ -50,9 +59,12 @@ pub fn all_end_within(subs: Subs, limit: usize) -> bool
     requires { limit ≤ 128 }
     ensures { result ≡ all_end_within limit (model_subs subs) }
 {
-    subs.list[..subs.count]
-        .iter()
-        .all(|sub| ends_within(*sub, limit))
+    for i in 0..subs.count {
+        if !ends_within(sub_at(&subs, i), limit) {
+            return false;
+        }
+    }
+    true
 }
 
 // Copies the live record's value over the front of a buffer of zeros: how long it is, 0 under an absent key.
@@ -72,6 +84,7 @@ fn load(table: &[u8], target: Target, value: &mut [u8]) -> usize
 // Writes a number into a field of a value of `len` bytes. `answer` is the number that the subcommand answers.
 fn set_field(value: &mut [u8], len: usize, field: Field, z: i64, answer: i64) -> Done
     requires clean { Clean value.old len }
+    requires typed { is_int_type (model_int field.int) ≡ true }
     requires within { end_bit (model_field field) ≤ 8 * length value.old }
     ensures { Leaves (stored (some answer) (set_field (model_field field) z (take len value.old))) (length value.old) value.new result }
 {
@@ -88,6 +101,7 @@ fn set_field(value: &mut [u8], len: usize, field: Field, z: i64, answer: i64) ->
 // Runs a subcommand on a value of `len` bytes.
 fn run_sub(value: &mut [u8], len: usize, sub: Sub) -> Done
     requires clean { Clean value.old len }
+    requires typed { Typed (model_sub sub) }
     requires within { ends_within (length value.old) (model_sub sub) ≡ true }
     ensures { Leaves (run_sub (model_sub sub) (take len value.old)) (length value.old) value.new result }
 {
@@ -135,6 +149,7 @@ fn put_answer(text: &mut [u8], at: usize, answered: Option<i64>) -> usize
 // Runs the subcommands on a value of `len` bytes, one after the other, and writes their answers over a text.
 fn run(value: &mut [u8], len: usize, subs: Subs, text: &mut [u8]) -> Ran
     requires clean { Clean value.old len }
+    requires typed { All Typed (model_subs subs) }
     requires within { all_end_within (length value.old) (model_subs subs) ≡ true }
     requires room { 23 * subs.count ≤ length text.old }
     ensures { LeavesAll (run_subs (model_subs subs) (take len value.old)) (length value.old) value.new text.old text.new result }
@@ -144,8 +159,8 @@ fn run(value: &mut [u8], len: usize, subs: Subs, text: &mut [u8]) -> Ran
         wrote: false,
         end: 0,
     };
-    for sub in &subs.list[..subs.count] {
-        let done = run_sub(value, ran.len, *sub);
+    for i in 0..subs.count {
+        let done = run_sub(value, ran.len, sub_at(&subs, i));
         ran = Ran {
             len: done.len,
             wrote: ran.wrote | done.wrote,
@@ -165,6 +180,7 @@ pub fn run_stored(
 ) -> Ran
     requires sound { Sound (shape_of target) table.now target.found }
     requires cleared { (value.old ≡ replicate (length value.old) 0) × ((shape_of target).value_limit ≤ length value.old) × (length value.old ≤ 128) }
+    requires typed { All Typed (model_subs subs) }
     requires within { all_end_within (length value.old) (model_subs subs) ≡ true }
     requires room { 23 * subs.count ≤ length text.old }
     ensures { LeavesAll (run_subs (model_subs subs) (stored_value table.now target)) (length value.old) value.new text.old text.new result }

@@ -1,13 +1,10 @@
 // The subcommands of BITFIELD by value.
-ghost use Rattle.std.specs.Prelude.{◌≡◌, ◌≤◌, true};
-ghost use Rattle.model.specs.Field.{is_int_type};
 
-// The type of a field: signed or not, and its width in bits, i1 to i64 and u1 to u63.
+// The type of a field: signed or not, and its width in bits.
 #[derive(Clone, Copy)]
 pub struct IntType {
     pub signed: bool,
     pub width: u8,
-    pub ghost known: { is_int_type (record { signed = signed; width = width }) ≡ true },
 }
 
 // A field: its type and its first bit.
@@ -42,11 +39,11 @@ pub struct Sub {
     pub number: i64,
 }
 
-// The subcommands of a command: the first `count` of the list, at most four, since one has three words or more.
-// Kept: an array with a count, since the library has no heap for a Vec.
+// The subcommands of a command: the first `count` of the list, at most four, since one has three words or more; past the fourth place the fourth
+// would stand again.
+// Kept: an array with a count, since the library has no heap for a Vec; and no fact of either, since what takes subcommands takes any.
 #[derive(Clone, Copy)]
 pub struct Subs {
     pub list: [Sub; 4],
     pub count: usize,
-    pub ghost few: { count ≤ 4 },
 }

@@ -32,8 +32,8 @@ use Rattle.put.specs.Put.{put_in, Puts}
 use Rattle.bitfield.specs.Run.{stored_value, LeavesAll}
 use Rattle.bitfield.specs.declared.Ran.{Ran}
 use Rattle.bitfield.proofs.Padded.{front}
-use Rattle.bitfield.proofs.Subcommands.{length-subs, typed-subs, all-end-more}
-use Rattle.execute.specs.Does.{fields_in}
+use Rattle.bitfield.proofs.Subcommands.{length-subs, all-end-more}
+use Rattle.execute.specs.Does.{fields_in, FieldsFit}
 use Rattle.write.proofs.Writing.{write_new}
 
 -- the buffer for a value has room for one of every form
@@ -53,13 +53,12 @@ module _ (t : List ℕ) (g : Target) (ss : Subs) where
   ran = run_subs (model_subs ss) (stored_value t g)
 
   -- one answer for each, of few bytes
-  module _ (full : length ss.list ≡ 4) where
-    pub answers-count : length (map result_scalar ran.results) ≡ ss.count
-    answers-count = length-map ran.results result_scalar ∙ (results-length (model_subs ss) (stored_value t g) ∙ length-subs ss full)
+  pub answers-count : length (map result_scalar ran.results) ≡ ss.count
+  answers-count = length-map ran.results result_scalar ∙ (results-length (model_subs ss) (stored_value t g) ∙ length-subs ss)
 
-    pub answers-size : length (scalars_bytes (map result_scalar ran.results)) ≤ 92
-    answers-size =
-        omega (arith, results-size ran.results (run_subs-signed (model_subs ss) (stored_value t g) (typed-subs ss)), results-length (model_subs ss) (stored_value t g), length-subs ss full, ss.few)
+  pub answers-size : FieldsFit ss → length (scalars_bytes (map result_scalar ran.results)) ≤ 92
+  answers-size h =
+      omega (arith, results-size ran.results (run_subs-signed (model_subs ss) (stored_value t g) h.typed), results-length (model_subs ss) (stored_value t g), length-subs ss, h.few)
 
   -- what BITFIELD does under a key
   pub ends-past : (k : List ℕ) → all_end_within (shape_of g).value_limit (model_subs ss) ≡ false → fields_in t g k ss ≡ refuse 16
@@ -83,8 +82,8 @@ module _ (t : List ℕ) (g : Target) (ss : Subs) where
     end-within = all-end-more (shape_of g).value_limit 128 (model_subs ss) (limit-small g.form) e
 
     -- what they leave fits a record
-    pub value-fits : Sound (shape_of g) t g.found → length ran.value ≤ (shape_of g).value_limit
-    value-fits s = run_subs-within (shape_of g).value_limit (model_subs ss) (stored_value t g) (typed-subs ss) e (stored-small (shape_of g) t g.found s.at)
+    pub value-fits : FieldsFit ss → Sound (shape_of g) t g.found → length ran.value ≤ (shape_of g).value_limit
+    value-fits h s = run_subs-within (shape_of g).value_limit (model_subs ss) (stored_value t g) h.typed e (stored-small (shape_of g) t g.found s.at)
 
 -- ---- the parts of the two buffers
 

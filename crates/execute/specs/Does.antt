@@ -5,6 +5,8 @@ use Rattle.model.specs.Table.{Form}
 use Rattle.model.specs.Command.{bitfield}
 use Rattle.model.specs.Execute.{Effect, act}
 use Rattle.model.proofs.Commands.{ChangeOk}
+use Rattle.model.proofs.Basics.{All}
+use Rattle.model.proofs.Runs.{Typed}
 use Rattle.command.specs.Command.{model_change}
 use Rattle.command.specs.Subcommand.{model_subs}
 use Rattle.command.specs.declared.subcommand.Subs.{Subs}
@@ -13,6 +15,11 @@ use Rattle.command.specs.declared.Action.TheVariants.{Exset, Exget, Exsetver, Ex
 use Rattle.live.specs.declared.Target.{Target}
 use Rattle.live.specs.Under.{shape_of, lookup_in, slot_in}
 pub use Rattle.write.specs.Does.{Held, held, Room, SomeRoom, Ready, act_in, Does}
+
+-- at most four subcommands, of known types
+pub record FieldsFit (ss : Subs) : Type 0 where
+  pub few : ss.count ≤ 4
+  pub typed : All Typed (model_subs ss)
 
 -- what BITFIELD does in the table t, at its target under the key k
 abbrev pub fields_in : (t : List ℕ) → Target → (k : List ℕ) → Subs → Checked Effect

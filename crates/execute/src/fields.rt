@@ -4,7 +4,7 @@ ghost use Rattle.model.specs.Resp.{Scalar, array, scalars_bytes};
 ghost use Rattle.model.specs.Bitfield.{all_end_within};
 ghost use Rattle.command.specs.Subcommand.{model_subs};
 ghost use Rattle.live.specs.Under.{shape_of};
-ghost use Rattle.execute.specs.Does.{SomeRoom, Ready, held, fields_in, Does};
+ghost use Rattle.execute.specs.Does.{SomeRoom, Ready, held, fields_in, Does, FieldsFit};
 ghost use Rattle.write.specs.Finish.{StoredOk, Finishes};
 
 use command::{Change, Expire, Presence, Subs, Terms};
@@ -27,7 +27,7 @@ fn finish(stored: Result<u64, Refusal>, count: usize, text: &[u8], reply: &mut [
 // Runs the subcommands, whose fields fit, on a copy of the stored value. It is stored only if one of them wrote.
 fn run(table: &mut [u8], target: Target, key: &[u8], subs: Subs, reply: &mut [u8]) -> Answer
     requires ready { Ready target key.now (held table.old reply.old) }
-    requires fields_fit { all_end_within (shape_of target).value_limit (model_subs subs) ≡ true }
+    requires fields_fit { FieldsFit subs × (all_end_within (shape_of target).value_limit (model_subs subs) ≡ true) }
     ensures { Does (shape_of target) (held table.old reply.old) (held table.new reply.new) (fields_in table.old target key.now subs) result }
 {
     let mut value = [0u8; 128];
@@ -57,6 +57,7 @@ pub fn bitfield(
     reply: &mut [u8],
 ) -> Answer
     requires ready { Ready target key.now (held table.old reply.old) }
+    requires fields_fit { FieldsFit subs }
     ensures { Does (shape_of target) (held table.old reply.old) (held table.new reply.new) (fields_in table.old target key.now subs) result }
 {
     if !bitfield::all_end_within(subs, record::limit(target.form)) {

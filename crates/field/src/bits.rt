@@ -1,7 +1,7 @@
 // The bits of a field, read and written a byte at a time: at most nine steps for 64 bits.
-ghost use Rattle.std.specs.Prelude.{◌≡◌, ◌+◌, ◌*◌, ◌^◌, ◌<◌, ◌≤◌, length, slice_index};
-ghost use Rattle.model.specs.Field.{end_bit, field_bits, set_field_bits};
-ghost use Rattle.command.specs.Subcommand.{model_field};
+ghost use Rattle.std.specs.Prelude.{◌≡◌, ◌+◌, ◌*◌, ◌^◌, ◌<◌, ◌≤◌, true, length, slice_index};
+ghost use Rattle.model.specs.Field.{is_int_type, end_bit, field_bits, set_field_bits};
+ghost use Rattle.command.specs.Subcommand.{model_int, model_field};
 ghost use Rattle.field.specs.Bytewise.{taken, bits_above, patched};
 
 use command::Field;
@@ -31,6 +31,7 @@ fn bits_above(bits: u64, n: usize, lower: usize) -> u64
 
 // The bits of a field as a number; past the end of the value they are 0.
 pub fn read_bits(value: &[u8], field: Field) -> u64
+    requires { is_int_type (model_int field.int) ≡ true }
     ensures { result ≡ field_bits (model_field field) value.now }
 {
     // the next bit is bit `from` of byte `i`; its number in the whole value might not fit 64 bits
@@ -63,7 +64,7 @@ fn patched(byte: u8, n: usize, lower: usize, bits: u64) -> u8
 
 // Writes the low bits of a number into a field that lies within the value.
 pub fn write_bits(value: &mut [u8], field: Field, bits: u64)
-    requires { end_bit (model_field field) ≤ 8 * length value.old }
+    requires { (is_int_type (model_int field.int) ≡ true) × (end_bit (model_field field) ≤ 8 * length value.old) }
     ensures { value.new ≡ set_field_bits (model_field field) bits value.old }
 {
     let mut i = (field.offset / 8) as usize;

@@ -1,12 +1,13 @@
 // The numbers of a type in 64 bits, and their bits.
-ghost use Rattle.std.specs.Prelude.{◌≡◌, ◌-◌, ◌<◌};
-ghost use Rattle.model.specs.Field.{modulus, least, greatest, fits, modulo, meaning};
+ghost use Rattle.std.specs.Prelude.{◌≡◌, ◌-◌, ◌<◌, true};
+ghost use Rattle.model.specs.Field.{is_int_type, modulus, least, greatest, fits, modulo, meaning};
 ghost use Rattle.command.specs.Subcommand.{model_int};
 
 use command::IntType;
 
 // As many ones as a type has bits.
 pub fn mask(int: IntType) -> u64
+    requires { is_int_type (model_int int) ≡ true }
     ensures { result ≡ modulus (model_int int) - 1 }
 {
     u64::MAX >> (64 - int.width)
@@ -14,6 +15,7 @@ pub fn mask(int: IntType) -> u64
 
 // The greatest number of a type.
 pub fn greatest(int: IntType) -> i64
+    requires { is_int_type (model_int int) ≡ true }
     ensures { result ≡ greatest (model_int int) }
 {
     let mask = mask(int);
@@ -25,6 +27,7 @@ pub fn greatest(int: IntType) -> i64
 
 // The least number of a type.
 pub fn least(int: IntType) -> i64
+    requires { is_int_type (model_int int) ≡ true }
     ensures { result ≡ least (model_int int) }
 {
     if int.signed {
@@ -35,6 +38,7 @@ pub fn least(int: IntType) -> i64
 
 // Whether a number fits a type.
 pub fn fits(int: IntType, z: i64) -> bool
+    requires { is_int_type (model_int int) ≡ true }
     ensures { result ≡ fits (model_int int) z }
 {
     (least(int) <= z) & (z <= greatest(int))
@@ -42,7 +46,7 @@ pub fn fits(int: IntType, z: i64) -> bool
 
 // The number that bits mean in a field. A signed type's upper half counts from its least number.
 pub fn number_of(int: IntType, bits: u64) -> i64
-    requires { bits < modulus (model_int int) }
+    requires { (is_int_type (model_int int) ≡ true) × (bits < modulus (model_int int)) }
     ensures { result ≡ meaning (model_int int) bits }
 {
     if int.signed {
@@ -56,6 +60,7 @@ pub fn number_of(int: IntType, bits: u64) -> i64
 
 // The bits of a number in a field.
 pub fn bits_of(int: IntType, z: i64) -> u64
+    requires { is_int_type (model_int int) ≡ true }
     ensures { result ≡ modulo z (modulus (model_int int)) }
 {
     z.cast_unsigned() & mask(int)

@@ -1,5 +1,5 @@
 -- BITFIELD from its subcommands on: what is known of them, and what is done at their target.
-use Prim.Native.Nat.{ℕ}
+use Prim.Native.Nat.{ℕ, ◌≤◌}
 use mathlib.Core.Path.{◌≡◌, refl, sym, ap, ◌∙◌}
 use mathlib.Core.List.{List}
 use lib.ListN.{drop}
@@ -20,7 +20,7 @@ use Rattle.command.specs.declared.subcommand.Subs.{Subs}
 use Rattle.live.specs.declared.Target.{Target}
 use Rattle.live.specs.Under.{IsUnder, shape_of}
 use Rattle.entry.proofs.Parses as parses
-use Rattle.execute.specs.Does.{fields_in}
+use Rattle.execute.specs.Does.{FieldsFit, fields_in}
 use Rattle.store.proofs.Acting.{act-at}
 
 module _ (ws : List (List ℕ)) (r : Result Subs Refusal) (h : checked model_subs r ≡ subcommands_in (drop 2 ws)) where
@@ -38,6 +38,9 @@ module _ (ws : List (List ℕ)) (f : Form) (time : ℕ) (e : parse_subcommands w
 
   pub known : (s : Subs) → ok (model_subs s) ≡ subcommands_in (drop 2 ws) → Known f ws (under (word_at 1 ws) (bitfield (model_subs s)))
   known s h = parses.known f time ws e (read ws (Ok s) h)
+
+  pub fields_fit : (s : Subs) → ok (model_subs s) ≡ subcommands_in (drop 2 ws) → s.count ≤ 4 → FieldsFit s
+  fields_fit s h few = record { few = few; typed = (known s h).action.typed }
 
 module _ (ws : List (List ℕ)) (t : List ℕ) (g : Target) where
   -- what they come to

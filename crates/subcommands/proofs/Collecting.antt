@@ -1,5 +1,5 @@
 -- The subcommands that were taken: after some of the words, and at their end.
-use Prim.Native.Nat.{ℕ, ◌+◌, ◌*◌, ◌≤◌, ◌<◌}
+use Prim.Native.Nat.{ℕ, zero, suc, ◌+◌, ◌*◌, ◌≤◌, ◌<◌, min}
 use native.Mathlib.Numerals.{add-one}
 use native.Mathlib.Omega.{arith}
 use mathlib.Core.Path.{◌≡◌, refl, sym, ap, ◌∙◌}
@@ -7,17 +7,31 @@ use mathlib.Core.Bool.{Bool, true, false, cond}
 use mathlib.Core.List.{List, [], ◌∷◌, ◌++◌, map, append-nil, map-append}
 use mathlib.Core.Option.{Option, none, some}
 use lib.ListN.{length, take, drop, set, length-set, drop_of_length-le}
-use lib.Seq.{take-suc-set}
+use lib.Seq.{drop-cons, take-suc-set}
 use Rattle.model.specs.Checked as Checked
 use Rattle.model.specs.Checked.{Checked, refuse, ok, given}
 use Rattle.model.specs.Overflow as overflow
 use Rattle.model.specs.Bitfield as bitfield
 use Rattle.model.specs.Subcommands.{Part, parts_in, subs_in, subcommands_in}
-use Rattle.command.specs.Subcommand.{model_mode, model_sub}
+use Rattle.command.specs.Subcommand.{model_mode, no_sub, model_sub, subs_from, model_subs}
 use Rattle.command.specs.declared.subcommand.Mode.{Mode}
 use Rattle.command.specs.declared.subcommand.Sub.{Sub}
+use Rattle.command.specs.declared.subcommand.Subs.{Subs}
 use Rattle.subcommands.specs.Steps.{outcome, resume}
 use Rattle.subcommands.specs.Words.{model_only}
+
+-- ---- the subcommands of a list that is full enough
+
+module _ (s : Subs) (four : length s.list ≡ 4) where
+  taken-from : (i n : ℕ) → i + n ≤ 4 → subs_from s i n ≡ map model_sub (take n (drop i s.list))
+  taken-from i zero h = refl
+  taken-from i (suc n) h =
+      let e : min i 3 ≡ i = omega arith in
+      rw (drop-cons s.list i no_sub (omega (arith, four)), e, taken-from (suc i) n (omega arith)) refl
+
+  pub subs-taken : s.count ≤ 4 → model_subs s ≡ map model_sub (take s.count s.list)
+  unfolding model_subs
+  subs-taken h = taken-from 0 s.count (omega arith)
 
 -- ---- word by word
 
@@ -92,5 +106,5 @@ module _ {ws : List (List ℕ)} {i : ℕ} {list : List Sub} {n : ℕ} {mode : Mo
     pub all-wrong : wrong ≡ true → refuse 9 ≡ subcommands_in (drop 2 ws)
     all-wrong e = sym (at-end e)
 
-    pub all_read : wrong ≡ false → ok done ≡ subcommands_in (drop 2 ws)
-    all_read e = sym (at-end e)
+    pub all_read : wrong ≡ false → ok (model_subs (record { list = list; count = n })) ≡ subcommands_in (drop 2 ws)
+    all_read e = ap (λ (d : List bitfield.Sub). ok d) (subs-taken (record { list = list; count = n }) b.four b.most) ∙ sym (at-end e)

@@ -14,7 +14,7 @@ use Rattle.number.proofs.Integers.{back_is}
 use Rattle.field.proofs.Words.{back-result}
 use Rattle.bitfield.specs.Run.{Clean}
 use Rattle.bitfield.proofs.Padded.{field_bits-padded}
-use Rattle.bitfield.proofs.Subcommands.{get-leaves, set-leaves, sum_of, nil-leaves, sum-leaves}
+use Rattle.bitfield.proofs.Subcommands.{typed-field, get-leaves, set-leaves, sum_of, nil-leaves, sum-leaves}
 use Rattle.bitfield.proofs.run_sub.Goals as goal
 
 -- the bits read are those of the field in the value
@@ -31,13 +31,13 @@ module _ (f : Field) {b : List ℕ} {len x : ℕ} (c : Clean b len) (e : x ≡ f
   number_is h = h ∙ ap (meaning f.type) bits_is
 
 pub number_of-requires : goal.number_of-requires
-number_of-requires c = small _ c.requires.clean c.read_bits-bits.ensures
+number_of-requires c = (typed-field c.args.sub c.requires.typed, small _ c.requires.clean c.read_bits-bits.ensures)
 
 pub number_of-old-requires : goal.number_of-old-requires
-number_of-old-requires c = small _ c.requires.clean c.read_bits-bits.ensures
+number_of-old-requires c = (typed-field c.args.sub c.requires.typed, small _ c.requires.clean c.read_bits-bits.ensures)
 
 pub increase-requires : goal.increase-requires
-increase-requires c = small _ c.requires.clean c.read_bits-bits.ensures
+increase-requires c = (typed-field c.args.sub c.requires.typed, small _ c.requires.clean c.read_bits-bits.ensures)
 
 pub returns-in_default : goal.returns-in_default
 returns-in_default c =

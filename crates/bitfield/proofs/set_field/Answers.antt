@@ -15,7 +15,7 @@ returns c =
     let bits = c.bits_of.ensures ∙ ap (λ (z : ℤ). modulo z (modulus f.type)) (back_is c.ranges.z) in
     let bytes = c.write_bits.ensures ∙ ap (λ (x : ℕ). set_field_bits f x c.args.value.now) bits in
     record {
-      holds = set_holds f c.requires.clean c.args.field.int.known c.requires.within c.args.z bytes c.max.ensures;
+      holds = set_holds f c.requires.clean c.requires.typed c.requires.within c.args.z bytes c.max.ensures;
       wrote = refl;
       answered = ap some (back_is c.ranges.answer);
     }

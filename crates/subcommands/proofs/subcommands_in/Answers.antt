@@ -7,7 +7,7 @@ use Rattle.model.specs.Checked.{Checked, ok, given}
 use Rattle.model.specs.Command.{look}
 use Rattle.model.specs.Overflow as overflow
 use Rattle.model.specs.Subcommands.{SubName, sub_names, modes, arity}
-use Rattle.command.specs.Subcommand.{model_mode, model_sub, model_subs}
+use Rattle.command.specs.Subcommand.{model_mode, model_sub}
 use Rattle.command.specs.declared.subcommand.Operation.{Operation}
 use Rattle.subcommands.specs.Words.{sub_by}
 use Rattle.subcommands.proofs.Answers.{given-some}
@@ -32,19 +32,19 @@ cut op p q r = λ i. given 9 (sub_by op (p i) (q i) (r i))
 pub loop-i-init : goal.loop-i-init
 loop-i-init c = reached-first c.args.words.now _ refl
 
-pub returns-in_err-name : goal.returns-in_err-name
-returns-in_err-name c =
+pub returns-in_err-name-clause-subs : goal.returns-in_err-name-clause-subs
+returns-in_err-name-clause-subs c =
     let p = err_from_is_err_and c.from_residual.result c.from_residual.ensures.1 in
     rw (p.1, p.2) (refused c.loop-i.invariant (at-unknown c.args.words.now c.loop-i.i (omega arith) (model_mode c.loop-i.mode) c.loop-i.wrong (map model_sub (take c.loop-i.count c.loop-i.list))
     (named c.in_err-name.ensures c.word.ensures)))
 
-pub returns-then-len-i : goal.returns-then-len-i
-returns-then-len-i c =
+pub returns-then-len-i-clause-subs : goal.returns-then-len-i-clause-subs
+returns-then-len-i-clause-subs c =
     refused c.loop-i.invariant (at-short c.args.words.now c.loop-i.i (omega arith) (model_mode c.loop-i.mode) c.loop-i.wrong (map model_sub (take c.loop-i.count c.loop-i.list))
     _ (known c.in_ok-name.ensures c.word.ensures refl) (omega (arith, c.arity.ensures)))
 
-pub returns-in_err-mode-in-None : goal.returns-in_err-mode-in-None
-returns-in_err-mode-in-None c =
+pub returns-in_err-mode-in-None-clause-subs : goal.returns-in_err-mode-in-None-clause-subs
+returns-in_err-mode-in-None-clause-subs c =
     let p = err_from_is_err_and c.from_residual-in_err-mode-in-None.result c.from_residual-in_err-mode-in-None.ensures.1 in
     rw (p.1, p.2) (refused c.loop-i.invariant (at-no_mode c.args.words.now c.loop-i.i (omega arith) (model_mode c.loop-i.mode) c.loop-i.wrong (map model_sub (take c.loop-i.count c.loop-i.list))
     (known c.in_ok-name.ensures c.word.ensures c.in-None.ensures) (mode-named c.in_err-mode-in-None.ensures c.word-in-None.ensures)))
@@ -72,9 +72,8 @@ loop-i-preserved c =
     (omega (arith, c.arity.ensures, ap arity c.in-Some.ensures.0)) (omega arith)
     (c.in-Err.ensures ∙ cut c.in-Some.operation c.word-int.ensures c.word-offset.ensures c.word-number.ensures))
 
-pub returns-then-wrong : goal.returns-then-wrong
-returns-then-wrong c = all-wrong c.loop-i.invariant (omega arith) c.if-wrong.true
+pub returns-then-wrong-clause-subs : goal.returns-then-wrong-clause-subs
+returns-then-wrong-clause-subs c = all-wrong c.loop-i.invariant (omega arith) c.if-wrong.true
 
-pub returns : goal.returns
-unfolding model_subs
-returns c = all_read c.loop-i.invariant (omega arith) c.if-wrong.false
+pub returns-clause-subs : goal.returns-clause-subs
+returns-clause-subs c = all_read c.loop-i.invariant (omega arith) c.if-wrong.false

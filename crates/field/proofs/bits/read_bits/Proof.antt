@@ -80,7 +80,7 @@ read_bits_spec =
     (λ c. search rules)
     (λ c.
     let s = c.before.before.before.before in
-    begins (model_field s.args.field) s.args.value.now s.args.field.int.known (omega arith))
+    begins (model_field s.args.field) s.args.value.now s.requires (omega arith))
     (λ c κs. c.loop-left.invariant.inside)
     (λ c. omega arith)
     (λ c κs. tt)

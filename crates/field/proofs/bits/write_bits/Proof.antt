@@ -49,7 +49,7 @@ returns c =
     let s = c.before.before.before.before.before.before in
     let f = model_field s.args.field in
     let i = c.loop-left.invariant in
-    writing-all f s.args.bits s.args.value.now c.loop-left.value _ (ends f.type s.args.field.int.known).wide s.requires i.bytes (last i (omega arith))
+    writing-all f s.args.bits s.args.value.now c.loop-left.value _ (ends f.type s.requires.0).wide s.requires.1 i.bytes (last i (omega arith))
 
 pub write_bits_spec : {M : Type 1} → statement M
 write_bits_spec =
@@ -62,8 +62,8 @@ write_bits_spec =
     let s = c.before.before.before.before in
     record {
       inside = omega arith;
-      few = (ends (model_field s.args.field).type s.args.field.int.known).narrow;
-      room = omega (arith, s.requires);
+      few = (ends (model_field s.args.field).type s.requires.0).narrow;
+      room = omega (arith, s.requires.1);
       same = refl;
       bytes = λ i. (c.slice_known-1.given i).fits;
       is = refl;

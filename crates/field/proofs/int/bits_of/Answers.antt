@@ -12,4 +12,4 @@ pub returns : goal.returns
 returns c =
     let a = c.args in
     rw (c.cast_unsigned.ensures, c.mask.ensures, back_is c.ranges.z, word_is a.z c.ranges.z)
-    (and_mask (modulo a.z (2 ^ 64)) a.int.width ∙ word_low a.z a.int.width (ends (model_int a.int) a.int.known).narrow)
+    (and_mask (modulo a.z (2 ^ 64)) a.int.width ∙ word_low a.z a.int.width (ends (model_int a.int) c.requires).narrow)

@@ -5,4 +5,4 @@ use Rattle.field.proofs.Words.{ones-shift}
 use Rattle.field.proofs.int.mask.Goals as goal
 
 pub returns : goal.returns
-returns c = ones-shift 64 c.args.int.width (ends (model_int c.args.int) c.args.int.known).narrow
+returns c = ones-shift 64 c.args.int.width (ends (model_int c.args.int) c.requires).narrow

@@ -31,15 +31,15 @@ module _ (k : IntType) (law : is_int_type k ≡ true) where
 pub returns-then-half-bits : goal.returns-then-half-bits
 returns-then-half-bits c =
     let k = model_int c.args.int in
-    let known = c.args.int.known in
-    rw (above k known c.if-int.true c.if-half-bits.true c.requires (back-result c.least.type_inv c.least.ensures)) (back_is (meaning-word k known c.args.bits c.requires))
+    let known = c.requires.0 in
+    rw (above k known c.if-int.true c.if-half-bits.true c.requires.1 (back-result c.least.type_inv c.least.ensures)) (back_is (meaning-word k known c.args.bits c.requires.1))
 
 pub returns : goal.returns
 returns c =
     let k = model_int c.args.int in
-    let known = c.args.int.known in
+    let known = c.requires.0 in
     low-is k known c.args.bits
     (elim c.if-int.branch [
       | then-int+else-half-bits w ↦ omega (arith, w.if-half-bits.false, half_is k known w.if-int.true, twice k known w.if-int.true)
-      | else-int w ↦ omega (arith, c.requires, unsigned-none k w.if-int.false)
+      | else-int w ↦ omega (arith, c.requires.1, unsigned-none k w.if-int.false)
     ])

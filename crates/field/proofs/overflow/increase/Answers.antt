@@ -24,7 +24,7 @@ module _ (c : After-mask-mask) where
 
   kept : bit_and ((c.args.bits + c.cast_unsigned.result) % 2 ^ 64) c.mask-mask.result ≡ modulo (meaning k c.args.bits +ℤ c.args.by) (modulus k)
   kept =
-      wrapped-bits k c.args.int.known c.args.bits c.args.by c.requires
+      wrapped-bits k c.requires.0 c.args.bits c.args.by c.requires.1
       (rw (c.cast_unsigned.ensures, back_is c.ranges.by) (word_is c.args.by c.ranges.by)) refl c.mask-mask.ensures
 
 -- the sum, only if it fits
@@ -36,7 +36,7 @@ told (Err Over) = refl
 pub number_of-requires : goal.number_of-requires
 number_of-requires c =
     let k = model_int c.args.int in
-    rw (kept c) (modulo-lt (meaning k c.args.bits +ℤ c.args.by) (modulus k) (pow_pos k.width))
+    rw (kept c) (c.requires.0, modulo-lt (meaning k c.args.bits +ℤ c.args.by) (modulus k) (pow_pos k.width))
 
 pub returns-in-Wrap : goal.returns-in-Wrap
 unfolding overflow

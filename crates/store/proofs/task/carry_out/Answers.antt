@@ -18,7 +18,7 @@ use Rattle.execute.specs.Does.{Held, Ready}
 use Rattle.write.proofs.Writing.{does-as}
 use Rattle.store.specs.Runs.{CanRun, effect_in}
 use Rattle.store.proofs.Acting.{action-fits, action-done}
-use Rattle.store.proofs.Subcommands.{refused, known, fields-refused, fields-done}
+use Rattle.store.proofs.Subcommands.{refused, known, fields_fit, fields-refused, fields-done}
 use Rattle.store.proofs.task.carry_out.Goals as goal
 
 module _ {g : Target} {k : Task} {ws : List (List ℕ)} {old : Held} (r : CanRun g k ws old) where
@@ -55,8 +55,14 @@ error-requires c =
 
 pub bitfield-requires : goal.bitfield-requires
 bitfield-requires c =
-    let k = known c.args.words.now (shape_of c.args.target) c.args.target.time (read c.requires.can_run c.in-Bitfield.is) c.in-Ok.subs c.in-Ok.ensures in
-    record { ready = ready c.requires.can_run c.word-key.ensures k }
+    let e = read c.requires.can_run c.in-Bitfield.is in
+    let a = c.args in
+    let f = shape_of a.target in
+    let subs = c.in-Ok.ensures.subs in
+    record {
+      ready = ready c.requires.can_run c.word-key.ensures (known a.words.now f a.target.time e c.in-Ok.subs subs);
+      fields_fit = fields_fit a.words.now f a.target.time e c.in-Ok.subs subs c.in-Ok.ensures.few;
+    }
 
 pub returns-in-Action : goal.returns-in-Action
 returns-in-Action c =
@@ -76,5 +82,5 @@ pub returns-in-Ok : goal.returns-in-Ok
 returns-in-Ok c =
     does-as
     (by-task c.args.target c.args.table.now c.args.words.now c.in-Bitfield.is
-    ∙ fields-done c.args.words.now c.args.table.now c.args.target c.in-Ok.subs c.in-Ok.ensures c.word-key.ensures (under c.requires.can_run c.word-key.ensures))
+    ∙ fields-done c.args.words.now c.args.table.now c.args.target c.in-Ok.subs c.in-Ok.ensures.subs c.word-key.ensures (under c.requires.can_run c.word-key.ensures))
     c.bitfield.ensures

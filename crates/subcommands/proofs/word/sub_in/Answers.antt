@@ -2,12 +2,14 @@
 use Rattle.std.proofs.Common.{◌≡◌, refl, sym, ap, ◌∙◌, ℤ, pos, SFits, w64, rules}
 use Rattle.std.proofs.lemmas.Result.{err_from_is_err_and}
 use Rattle.model.specs.Checked.{given}
+use Rattle.model.specs.Subcommands.{field_in}
 use Rattle.std.specs.Prelude.{Some}
 use Rattle.std.proofs.Math.Option.{Option, some}
 use Rattle.outcome.specs.Outcome.{from_model}
 use Rattle.number.proofs.Integers.{back, back_is}
 use Rattle.command.specs.Subcommand.{model_field}
-use Rattle.subcommands.proofs.Answers.{from-none, from-some}
+use Rattle.model.proofs.Subcommands.{field-known}
+use Rattle.subcommands.proofs.Answers.{given-some, from-none, from-some}
 use Rattle.subcommands.proofs.Acting.{placed, acted, no_number, gets, sets-wrong, sets, adds}
 use Rattle.subcommands.proofs.word.sub_in.Goals as goal
 
@@ -55,3 +57,9 @@ returns-in_default-operation c =
     let fits : SFits w64 z = search rules in
     ap (given 9) (adds a.operation c.in_default.not-Get c.in_default-operation.not-Set c.in_ok-field.field (back z))
     ∙ acted a.operation a.int.now a.offset.now a.number.now c.in_ok-field.ensures (read c.in-Some.ensures fits)
+
+pub fits-requires : goal.fits-requires
+fits-requires c =
+    let a = c.args in
+    let f = model_field c.in_ok-field.field in
+    field-known a.int.now a.offset.now f (given-some 9 (field_in a.int.now a.offset.now) c.in_ok-field.ensures)
