@@ -45,7 +45,7 @@ fn reads(table: &[u8]) -> bool
     if !integrity::has_size(table, form) {
         return false;
     }
-    for i in 0..table::count(table, form) {
+    for i in (0..table::count(table, form)).rev() {
         if !entry::passes(table::slot(table, form, i)) {
             return false;
         }
@@ -110,7 +110,7 @@ pub fn part_in(table: &[u8], view: View) -> Result<Part, Refusal>
     }
 }
 
-// The number by which every call on a part is refused before its time is looked at; 0 where there is none.
+// Why every call on a part is refused before its time is looked at, if it is.
 pub fn refusal(table: &[u8], view: View) -> Option<Refusal>
     ensures { number_in result ≡ refusal_of (good_part form128 (model_view view) table.now) }
 {
