@@ -15,7 +15,7 @@ use record::Form;
 use resp::Words;
 
 // The longest table for which the smaller arrays of the index do: 16 records.
-const SMALL: usize = 2048;
+pub const SMALL: usize = 2048;
 
 // What is asked of a table: the time of the call, and the length of the reply buffer.
 #[derive(Clone, Copy)]
