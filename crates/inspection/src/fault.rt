@@ -1,5 +1,5 @@
 // What is wrong with a table: a line for its length and one for each slot, with the rule that is broken.
-ghost use Rattle.std.specs.Prelude.{◌≡◌, ◌≤◌, ◌<◌, length, not};
+ghost use Rattle.std.specs.Prelude.{◌≡◌, ◌≤◌, ◌<◌, length, not, IfSome};
 ghost use Rattle.model.specs.Table.{form128, read_slot};
 ghost use Rattle.model.specs.Optional.{is_some};
 ghost use Rattle.outcome.specs.Outcome.{to_model};
@@ -124,6 +124,7 @@ impl Subject<'_> {
     // The first slot before a slot and in its part that has an equal key.
     fn twin_of(&self, r: &[u8; SIZE], slot: usize) -> Option<usize>
         requires { slot ≤ length self.now.records.now }
+        ensures { IfSome result (λ i. (part_start slot self.now.boundary ≤ i) × (i < slot)) }
     {
         let start = part_start(slot, self.boundary);
         let i = self.records[start..slot]
