@@ -2,7 +2,11 @@
 use crate::escape::Quoted;
 use crate::numeral::Decimal;
 use std::io;
-use std::io::Write;
+use std::io::{Cursor, Write};
+
+// The room for a text, which is more than a reply of the store takes.
+// Kept: a buffer, since a text on the heap could fail where a table has changed already.
+const PAGE: usize = 1024;
 
 // An item of a reply that is no array.
 #[derive(Clone, Copy)]
@@ -45,7 +49,7 @@ fn read_item(reply: &[u8]) -> Option<(Item<'_>, &[u8])> {
 }
 
 // Adds an item to a page.
-fn add_item(page: &mut Vec<u8>, item: Item<'_>) -> io::Result<()> {
+fn add_item(page: &mut impl Write, item: Item<'_>) -> io::Result<()> {
     match item {
         Item::Simple(text) => page.write_all(text),
         Item::Error(text) => {
@@ -62,7 +66,7 @@ fn add_item(page: &mut Vec<u8>, item: Item<'_>) -> io::Result<()> {
 }
 
 // Adds an item of an array with its number. The empty simple string has no blank before it.
-fn add_numbered(page: &mut Vec<u8>, i: usize, item: Item<'_>) -> io::Result<()> {
+fn add_numbered(page: &mut impl Write, i: usize, item: Item<'_>) -> io::Result<()> {
     write!(page, "{})", Decimal(i as u64))?;
     if !matches!(item, Item::Simple([])) {
         page.write_all(b" ")?;
@@ -73,7 +77,7 @@ fn add_numbered(page: &mut Vec<u8>, i: usize, item: Item<'_>) -> io::Result<()> 
 
 // Adds the items of an array, and gives back what follows it; none where an item cannot be read.
 fn add_items<'a>(
-    page: &mut Vec<u8>,
+    page: &mut impl Write,
     count: usize,
     items: &'a [u8],
 ) -> io::Result<Option<&'a [u8]>> {
@@ -89,7 +93,7 @@ fn add_items<'a>(
 }
 
 // Adds an array of less than ten items, and gives back what follows it.
-fn add_array<'a>(page: &mut Vec<u8>, array: &'a [u8]) -> io::Result<Option<&'a [u8]>> {
+fn add_array<'a>(page: &mut impl Write, array: &'a [u8]) -> io::Result<Option<&'a [u8]>> {
     match split_line(array) {
         Some((b"0", rest)) => {
             page.write_all(b"(empty array)\n")?;
@@ -101,7 +105,7 @@ fn add_array<'a>(page: &mut Vec<u8>, array: &'a [u8]) -> io::Result<Option<&'a [
 }
 
 // Adds an array, or an item by itself, and gives back what follows it; none where the reply is no RESP2.
-fn add_reply<'a>(page: &mut Vec<u8>, reply: &'a [u8]) -> io::Result<Option<&'a [u8]>> {
+fn add_reply<'a>(page: &mut impl Write, reply: &'a [u8]) -> io::Result<Option<&'a [u8]>> {
     if let [b'*', array @ ..] = reply {
         return add_array(page, array);
     }
@@ -114,14 +118,17 @@ fn add_reply<'a>(page: &mut Vec<u8>, reply: &'a [u8]) -> io::Result<Option<&'a [
 }
 
 // Prints a reply as redis-cli does, in one write, and says so where it is no RESP2 or bytes are left after it. A reply of no bytes prints nothing.
-pub fn print_reply(rt: &(impl Print + AllocGlobal), reply: &[u8]) -> io::Result<()> {
+pub fn print_reply(rt: &impl Print, reply: &[u8]) -> io::Result<()> {
     if reply.is_empty() {
         return Ok(());
     }
-    let mut page = Vec::new(rt.alloc());
+    let mut page = Cursor::new([0u8; PAGE]);
     match add_reply(&mut page, reply)? {
         Some([]) => {}
         _ => page.write_all(b"malformed reply\n")?,
     }
-    rt.write_all(&page)
+    match page.get_ref().get(..page.position() as usize) {
+        Some(text) => rt.write_all(text),
+        None => Err(io::Error::other("the text is too long")),
+    }
 }
