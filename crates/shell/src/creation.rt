@@ -37,10 +37,13 @@ fn init_alone<'a>(
     }
 }
 
-// Makes a new table.
-pub fn init<'a>(rt: &impl Host, path: &'a [u8], records: u64) -> Result<u64, Failure<'a>> {
+// Makes a new table. Why it is not made is told while no other run can make one.
+pub fn init(rt: &impl Host, path: &[u8], records: u64) -> Result<u64, Failure<'static>> {
     let grant = ask()?;
-    let made = init_alone(rt, path, grant, records);
+    let status = match init_alone(rt, path, grant, records) {
+        Ok(status) => status,
+        Err(failure) => failure.tell(rt),
+    };
     let_go();
-    made
+    Ok(status)
 }
