@@ -52,7 +52,7 @@ fn swapped(found: Lookup, value: Span) -> Option<Shown>
 }
 
 // What an action of a command's words shows.
-fn shown_by(table: &[u8], target: Target, action: Action, words: &Words<'_>) -> Option<Shown>
+fn shown_by(table: &[u8], target: Target, action: Action, words: &Words<'_, '_>) -> Option<Shown>
     requires sound { Sound (shape_of target) table.now target.found }
     requires action_at { ActionAt action words.now }
     ensures { model_shown result ≡ shown_by table.now target action (span_at 2 words.now) }

@@ -114,7 +114,7 @@ fn takes(rule: Rule, opt: Opt) -> bool
 }
 
 // The option that word `i` spells, which must be one that the command takes, and the word after it if a number follows, which must be there.
-fn take_option(words: &Words<'_>, rule: Rule, i: usize) -> Result<Taken, Refusal>
+fn take_option(words: &Words<'_, '_>, rule: Rule, i: usize) -> Result<Taken, Refusal>
     requires { i < length words.now }
     ensures { Takes (model_rule rule) words.now i result }
 {
@@ -152,7 +152,7 @@ fn enough(rule: Rule, o: Options) -> bool
 }
 
 // The options of a command, which stand after the fixed words.
-pub fn options_in(words: &Words<'_>, rule: Rule) -> Result<Options, Refusal>
+pub fn options_in(words: &Words<'_, '_>, rule: Rule) -> Result<Options, Refusal>
     ensures { Collects words.now (options_in (model_rule rule) (drop rule.fixed words.now)) result }
 {
     let mut options = Options { groups: [None; 10] };

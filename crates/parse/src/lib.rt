@@ -21,7 +21,7 @@ use resp::Words;
 // The command of a name: tests 8 to 11. The number among the fixed words is read first, and refused where its test stands. Options are not looked
 // for where no words are left for them, since most commands have none.
 #[tactic(auto, unfolding(model::specs::Parse::parse_options, model::specs::Parse::parse_numbers))]
-fn parse_options(words: &Words<'_>, time: u64, name: Name, rule: Rule) -> Result<Task, Refusal>
+fn parse_options(words: &Words<'_, '_>, time: u64, name: Name, rule: Rule) -> Result<Task, Refusal>
     requires in_time { time ≤ time_limit }
     requires rule { model_rule rule ≡ rule_of (model_name name) }
     ensures { checked_parsed words.now result ≡ parse_options time words.now (model_name name) }
@@ -42,7 +42,7 @@ fn parse_options(words: &Words<'_>, time: u64, name: Name, rule: Rule) -> Result
 }
 
 // Tests how many words a command has, and the sizes of its key and value: 6 and 7.
-fn check_fixed(words: &Words<'_>, form: Form, rule: Rule) -> Result<(), Refusal>
+fn check_fixed(words: &Words<'_, '_>, form: Form, rule: Rule) -> Result<(), Refusal>
     ensures { checked (λ u. u) result ≡ fixed_ok (form_of form) (model_rule rule) words.now }
 {
     if !arguments::count_ok(rule, words.len()) {
@@ -56,7 +56,7 @@ fn check_fixed(words: &Words<'_>, form: Form, rule: Rule) -> Result<(), Refusal>
 
 // The command of a name: tests 6 to 11.
 #[tactic(auto, unfolding(model::specs::Parse::parse_named))]
-fn parse_named(words: &Words<'_>, time: u64, form: Form, name: Name) -> Result<Task, Refusal>
+fn parse_named(words: &Words<'_, '_>, time: u64, form: Form, name: Name) -> Result<Task, Refusal>
     requires { time ≤ time_limit }
     ensures { checked_parsed words.now result ≡ parse_named (form_of form) time words.now (model_name name) }
 {
@@ -67,7 +67,7 @@ fn parse_named(words: &Words<'_>, time: u64, form: Form, name: Name) -> Result<T
 
 // BITFIELD: tests 6 and 7.
 #[tactic(auto, unfolding(model::specs::Parse::parse_bitfield))]
-fn parse_bitfield(words: &Words<'_>, form: Form) -> Result<Task, Refusal>
+fn parse_bitfield(words: &Words<'_, '_>, form: Form) -> Result<Task, Refusal>
     ensures { checked_parsed words.now result ≡ parse_bitfield (form_of form) words.now }
 {
     check_fixed(words, form, command::bitfield_rule())?;
@@ -76,7 +76,7 @@ fn parse_bitfield(words: &Words<'_>, form: Form) -> Result<Task, Refusal>
 
 // What the words of a command ask for: tests 5 to 11. Of BITFIELD the subcommands are left to be read.
 #[tactic(auto, unfolding(model::specs::Parse::parse))]
-pub fn parse(words: &Words<'_>, time: u64, form: Form) -> Result<Task, Refusal>
+pub fn parse(words: &Words<'_, '_>, time: u64, form: Form) -> Result<Task, Refusal>
     requires { time ≤ time_limit }
     ensures { checked_parsed words.now result ≡ parse (form_of form) time words.now }
 {

@@ -44,13 +44,13 @@ pub struct Reader<'a> {
 // The words of a command: its bytes, and where each of its words stands in them. Kept: places and their number are a buffer with a length, since the
 // library has no heap.
 #[derive(Drop)]
-pub struct Words<'a> {
-    bytes: &'a [u8],
-    places: &'a [u16; 32],
+pub struct Words<'s, 'p> {
+    bytes: &'s [u8],
+    places: &'p [u16; 32],
     count: usize,
 }
 
-impl<'a> Model for Words<'a> {
+impl<'s, 'p> Model for Words<'s, 'p> {
     ghost Value = { List (List ℕ) };
 
     ghost view = { λ w. words_of w.bytes.now };
@@ -223,7 +223,7 @@ fn count_words(s: &[u8], places: &mut [u16; 32]) -> Option<usize>
 }
 
 // The words of a whole command, with nothing after the last; `places` is to hold where they stand.
-pub fn split<'a>(s: &'a [u8], places: &'a mut [u16; 32]) -> Result<Words<'a>, Refusal>
+pub fn split<'s, 'p>(s: &'s [u8], places: &'p mut [u16; 32]) -> Result<Words<'s, 'p>, Refusal>
     requires { length places.old ≡ 32 }
     ensures { checked (λ ws. ws) result ≡ given 4 (decode s.now) }
 {
@@ -237,7 +237,7 @@ pub fn split<'a>(s: &'a [u8], places: &'a mut [u16; 32]) -> Result<Words<'a>, Re
     })
 }
 
-impl<'a> Words<'a> {
+impl<'s, 'p> Words<'s, 'p> {
     // How many there are.
     pub fn len(&self) -> usize
         ensures value { result ≡ length self.now }
@@ -259,7 +259,7 @@ impl<'a> Words<'a> {
     }
 
     // Word `i`, and the empty part where there is none.
-    pub fn word(&self, i: usize) -> &'a [u8]
+    pub fn word(&self, i: usize) -> &'s [u8]
         ensures { result.now ≡ word_at i self.now }
     {
         if i < self.count {

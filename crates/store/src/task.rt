@@ -13,7 +13,7 @@ pub fn carry_out(
     table: &mut [u8],
     target: Target,
     task: Task,
-    words: &Words<'_>,
+    words: &Words<'_, '_>,
     reply: &mut [u8],
 ) -> Answer
     requires can_run { CanRun target task words.now (held table.old reply.old) }

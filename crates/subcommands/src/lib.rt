@@ -51,7 +51,7 @@ fn operation_of(name: SubName, mode: Mode) -> Option<Operation>
 }
 
 // The subcommands of a command, which stand after the key. One that is wrong is refused only after the last, since test 8 comes before 9.
-pub fn subcommands_in(words: &Words<'_>) -> Result<Subs, Refusal>
+pub fn subcommands_in(words: &Words<'_, '_>) -> Result<Subs, Refusal>
     ensures { checked model_subs result ≡ subcommands_in (drop 2 words.now) }
 {
     let mut list = [NO_SUB; 4];

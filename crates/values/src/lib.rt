@@ -43,7 +43,7 @@ pub struct Said {
 // ---- the numbers
 
 // The word of an option's number, empty where no number follows.
-fn number_word<'a>(words: &Words<'a>, g: Given) -> &'a [u8]
+fn number_word<'s>(words: &Words<'s, '_>, g: Given) -> &'s [u8]
     ensures { result.now ≡ number_word words.now g.word }
 {
     match g.word {
@@ -70,7 +70,7 @@ fn lifetime_by(opt: Opt, w: &[u8]) -> Result<Lifetime, Refusal>
 }
 
 // What a time word or KEEPTTL says.
-fn lifetime_in(words: &Words<'_>, g: Option<Given>) -> Result<Lifetime, Refusal>
+fn lifetime_in(words: &Words<'_, '_>, g: Option<Given>) -> Result<Lifetime, Refusal>
     ensures { checked model_lifetime result ≡ lifetime_in (model_given words.now g) }
 {
     let Some(g) = g else {
@@ -91,7 +91,7 @@ fn change_by(opt: Opt, n: u64) -> Change
 }
 
 // What becomes of the version.
-fn change_in(words: &Words<'_>, g: Option<Given>) -> Result<Change, Refusal>
+fn change_in(words: &Words<'_, '_>, g: Option<Given>) -> Result<Change, Refusal>
     ensures { checked model_change result ≡ change_in (model_given words.now g) }
 {
     let Some(g) = g else {
@@ -104,7 +104,7 @@ fn change_in(words: &Words<'_>, g: Option<Given>) -> Result<Change, Refusal>
 }
 
 // The flags that FLAGS sets.
-fn flags_in(words: &Words<'_>, g: Option<Given>) -> Result<u32, Refusal>
+fn flags_in(words: &Words<'_, '_>, g: Option<Given>) -> Result<u32, Refusal>
     ensures { checked (λ n. n) result ≡ flags_in (model_given words.now g) }
 {
     let Some(g) = g else {
@@ -117,7 +117,7 @@ fn flags_in(words: &Words<'_>, g: Option<Given>) -> Result<u32, Refusal>
 }
 
 // The bound that MIN or MAX sets.
-fn bound_in(words: &Words<'_>, g: Option<Given>) -> Result<Option<i64>, Refusal>
+fn bound_in(words: &Words<'_, '_>, g: Option<Given>) -> Result<Option<i64>, Refusal>
     ensures { checked to_model result ≡ bound_in (model_given words.now g) }
 {
     let Some(g) = g else {
@@ -131,7 +131,7 @@ fn bound_in(words: &Words<'_>, g: Option<Given>) -> Result<Option<i64>, Refusal>
 
 // The numbers that the options of a command say: test 9.
 #[tactic(auto, unfolding(model::specs::Options::numbers_in))]
-fn numbers_in(words: &Words<'_>, o: Options) -> Result<Numbers, Refusal>
+fn numbers_in(words: &Words<'_, '_>, o: Options) -> Result<Numbers, Refusal>
     ensures { (gs : List ModelGiven) → Tied words.now gs o → checked model_numbers result ≡ numbers_in gs }
 {
     let lifetime = lifetime_in(words, o.groups[options::TIME])?;
@@ -215,7 +215,7 @@ pub fn unsaid(keeps: bool) -> Said
 
 // What the options of a command say at the time `time`; where none says so, the expiry is kept or cleared: tests 9 to 11.
 #[tactic(auto, unfolding(model::specs::Options::said_in))]
-pub fn said_in(words: &Words<'_>, time: u64, keeps: bool, o: Options) -> Result<Said, Refusal>
+pub fn said_in(words: &Words<'_, '_>, time: u64, keeps: bool, o: Options) -> Result<Said, Refusal>
     requires { time ≤ time_limit }
     ensures { (gs : List ModelGiven) → Tied words.now gs o → checked model_said result ≡ said_in time keeps gs }
 {
