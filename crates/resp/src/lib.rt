@@ -43,7 +43,7 @@ pub struct Reader<'a> {
 
 // The words of a command: its bytes, and where each of its words stands in them. Kept: places and their number are a buffer with a length, since the
 // library has no heap.
-#[derive(Drop)]
+#[derive(Clone, Drop)]
 pub struct Words<'s, 'p> {
     bytes: &'s [u8],
     places: &'p [u16; 32],
