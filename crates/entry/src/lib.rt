@@ -25,7 +25,7 @@ pub struct Query {
 }
 
 // A command that its parse does not refuse: what it asks for, what stands under its key, and its words.
-#[derive(Clone, Drop)]
+#[derive(Clone, Copy)]
 pub struct Ready<'s, 'p> {
     pub task: Task,
     pub found: Lookup,
