@@ -12,6 +12,7 @@ use Rattle.table.specs.Slots.{slots_of}
 use Rattle.model.specs.Parse.{word_at, parse}
 use Rattle.model.proofs.Commands.{ActionOk}
 use Rattle.resp.specs.Spans.{span_at}
+use Rattle.resp.specs.Held.{words_in}
 use Rattle.command.specs.Command.{model_action, model_command, checked_task}
 use Rattle.command.specs.declared.Action as code
 use Rattle.command.specs.declared.Task.TheVariants.{Action, Bitfield}
@@ -46,18 +47,18 @@ module _ (q : Query) (t c : List ℕ) (room : q.room ≡ form128.reply_room) whe
   module _ (r : Ready) (h : IsReady q t c r) where
     -- nor does BITFIELD
     pub ready-fields : r.task ≡ Bitfield → nothing ≡ current_value form128 t q.time c
-    ready-fields e = value-passed h.entered (fields-shown form128 q.time t r.words (ap (checked_task r.words) (sym e) ∙ h.parsed))
+    ready-fields e = value-passed h.entered (fields-shown form128 q.time t (words_in r.words) (ap (checked_task (words_in r.words)) (sym e) ∙ h.parsed))
 
     module _ {a : code.Action} (e : r.task ≡ Action a) where
-      acted : ok (model_command r.words a) ≡ parse form128 q.time r.words
-      acted = ap (checked_task r.words) (sym e) ∙ h.parsed
+      acted : ok (model_command (words_in r.words) a) ≡ parse form128 q.time (words_in r.words)
+      acted = ap (checked_task (words_in r.words)) (sym e) ∙ h.parsed
 
-      action-ok : ActionOk form128 r.words (model_action (word_at 2 r.words) a)
-      action-ok = (known form128 q.time r.words acted refl).action
+      action-ok : ActionOk form128 (words_in r.words) (model_action (word_at 2 (words_in r.words)) a)
+      action-ok = (known form128 q.time (words_in r.words) acted refl).action
 
-      pub ready-at : ActionAt a r.words
-      ready-at = action-at form128 r.words a action-ok
+      pub ready-at : ActionAt a (words_in r.words)
+      ready-at = action-at form128 (words_in r.words) a action-ok
 
       -- what an action shows of what stands under its key
-      pub ready-shown : shown_of form128 t r.found a (span_at 2 r.words) ≡ current_value form128 t q.time c
-      ready-shown = value-passed h.entered (shown-is form128 q.time t r.words a acted action-ok h.under)
+      pub ready-shown : shown_of form128 t r.found a (span_at 2 (words_in r.words)) ≡ current_value form128 t q.time c
+      ready-shown = value-passed h.entered (shown-is form128 q.time t (words_in r.words) a acted action-ok h.under)

@@ -8,6 +8,7 @@ ghost use Rattle.record.specs.Forms.{form_of};
 ghost use Rattle.table.specs.Slots.{Reads, InUseAt};
 ghost use Rattle.live.specs.Under.{Sound, shape_of};
 ghost use Rattle.resp.specs.Spans.{span_at};
+ghost use Rattle.resp.specs.Held.{words_in};
 ghost use Rattle.current.specs.Shows.{model_shown, Shows};
 ghost use Rattle.current.specs.Current.{stored_at, swapped_to, shown_by, ActionAt};
 
@@ -52,10 +53,10 @@ fn swapped(found: Lookup, value: Span) -> Option<Shown>
 }
 
 // What an action of a command's words shows.
-fn shown_by(table: &[u8], target: Target, action: Action, words: &Words<'_>) -> Option<Shown>
+fn shown_by(table: &[u8], target: Target, action: Action, words: &Words<'_, '_>) -> Option<Shown>
     requires sound { Sound (shape_of target) table.now target.found }
-    requires action_at { ActionAt action words.now }
-    ensures { model_shown result ≡ shown_by table.now target action (span_at 2 words.now) }
+    requires action_at { ActionAt action (words_in words.now) }
+    ensures { model_shown result ≡ shown_by table.now target action (span_at 2 (words_in words.now)) }
 {
     let found = target.found;
     let form = target.form;

@@ -16,6 +16,8 @@ use Rattle.model.proofs.Words.{few_words}
 use Rattle.outcome.proofs.Cases.{clash}
 use Rattle.outcome.specs.Outcome.{checked, number_of}
 use Rattle.outcome.specs.declared.Refusal.{Refusal}
+use Rattle.resp.specs.Held.{words_in}
+use Rattle.resp.specs.declared.Words.{Words}
 use Rattle.table.specs.Slots.{slots_of}
 use Rattle.index.specs.Index.{Indexed}
 use Rattle.table.proofs.Records.{slots-of}
@@ -56,27 +58,27 @@ module _ {q : Query} {t c heads next : List ℕ} where
       short h = refused (rw (slots-of form128 t (good-reads form128 t good), good-keys form128 t good, le-leb q.time time_limit early, lt-leb form128.reply_room q.room h))
 
       module _ (room : form128.reply_room ≤ q.room) where
-        pub split-told : (r : Result (List (List ℕ)) Refusal) → checked (λ ws. ws) r ≡ given 4 (decode c) → Indexed form128 t 0 heads next → Gates q t c heads next r
+        pub split-told : (r : Result Words Refusal) → checked words_in r ≡ given 4 (decode c) → Indexed form128 t 0 heads next → Gates q t c heads next r
         unfolding gate
         split-told (Err r) e x =
             refused (rw (slots-of form128 t (good-reads form128 t good), good-keys form128 t good, le-leb q.time time_limit early, le-leb form128.reply_room q.room room, ← e))
         split-told (Ok ws) e x =
             let d = decoded (decode c) (sym e) in
-            let is = through-gate form128 t q.time q.room c (record { slots = slots_of form128 t; words = ws }) (record {
+            let is = through-gate form128 t q.time q.room c (record { slots = slots_of form128 t; words = words_in ws }) (record {
               table = record { read = slots-of form128 t (good-reads form128 t good); keys = good-keys form128 t good };
               time = early;
               buffer = room;
               command = d;
             }) in
-            let here : Entered q t c ws = record {
+            let here : Entered q t c (words_in ws) = record {
               is = is;
               reads = good-reads form128 t good;
               time = early;
               room = room;
-              few = few_words c ws d;
+              few = few_words c (words_in ws) d;
             } in
             record {
               answer = rw is;
-              passed = λ vs z. let same : ws ≡ vs = cc in subst (Entered q t c) same here;
+              passed = λ vs z. let same : ws ≡ vs = cc in subst (λ (w : Words). Entered q t c (words_in w)) same here;
               index = λ vs z. x;
             }

@@ -9,6 +9,8 @@ use Rattle.model.specs.Gate.{Inputs, gate}
 use Rattle.model.specs.Parse.{word_at, parse}
 use Rattle.outcome.specs.Outcome.{checked, number_of}
 use Rattle.outcome.specs.declared.Refusal.{Refusal}
+use Rattle.resp.specs.Held.{words_in}
+use Rattle.resp.specs.declared.Words.{Words}
 use Rattle.table.specs.Slots.{Reads, slots_of}
 use Rattle.index.specs.Index.{Indexed}
 use Rattle.command.specs.Command.{checked_task}
@@ -30,10 +32,10 @@ pub record Entered (q : Query) (t c : List ℕ) (ws : List (List ℕ)) : Type 0 
   pub few : length ws ≤ word_limit
 
 -- what the gate answers, and the arrays that it leaves
-pub record Gates (q : Query) (t c heads next : List ℕ) (r : Result (List (List ℕ)) Refusal) : Type 0 where
-  pub answer : checked (λ ws. ws) r ≡ (gate_in q t c >>= λ (i : Inputs). ok i.words)
-  pub passed : (ws : List (List ℕ)) → r ≡ Ok ws → Entered q t c ws
-  pub index : (ws : List (List ℕ)) → r ≡ Ok ws → Indexed form128 t 0 heads next
+pub record Gates (q : Query) (t c heads next : List ℕ) (r : Result Words Refusal) : Type 0 where
+  pub answer : checked words_in r ≡ (gate_in q t c >>= λ (i : Inputs). ok i.words)
+  pub passed : (ws : Words) → r ≡ Ok ws → Entered q t c (words_in ws)
+  pub index : (ws : Words) → r ≡ Ok ws → Indexed form128 t 0 heads next
 
 -- a command that its own words refuse
 pub record IsWrong (q : Query) (t c : List ℕ) (r : Refusal) : Type 0 where
@@ -43,9 +45,9 @@ pub record IsWrong (q : Query) (t c : List ℕ) (r : Refusal) : Type 0 where
 
 -- a command that is ready to be carried out
 pub record IsReady (q : Query) (t c : List ℕ) (r : Ready) : Type 0 where
-  pub entered : Entered q t c r.words
-  pub parsed : checked_task r.words r.task ≡ parse form128 q.time r.words
-  pub under : IsUnder form128 t q.time (word_at 1 r.words) r.found
+  pub entered : Entered q t c (words_in r.words)
+  pub parsed : checked_task (words_in r.words) r.task ≡ parse form128 q.time (words_in r.words)
+  pub under : IsUnder form128 t q.time (word_at 1 (words_in r.words)) r.found
 
 -- what a command comes to before it is carried out
 abbrev pub Prepares : Query → (t c : List ℕ) → Result Ready NotReady → Type 0

@@ -8,14 +8,14 @@ use crate::{NotReady, Query, Ready, gate};
 use record::Form;
 
 // Takes a command through the gate, parses it and looks its key up.
-pub fn prepare<'a>(
+pub fn prepare<'s, 'p>(
     table: &[u8],
     query: Query,
-    command: &'a [u8],
-    places: &'a mut [u16; 32],
+    command: &'s [u8],
+    places: &'p mut [u16; 32],
     heads: &mut [u8],
     next: &mut [u8],
-) -> Result<Ready<'a>, NotReady>
+) -> Result<Ready<'s, 'p>, NotReady>
     requires places_len { length places.old ≡ 32 }
     requires fresh { Fresh form128 table.now heads.old next.old }
     ensures { Prepares query table.now command.now result }

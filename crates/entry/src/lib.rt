@@ -25,11 +25,11 @@ pub struct Query {
 }
 
 // A command that its parse does not refuse: what it asks for, what stands under its key, and its words.
-#[derive(Drop)]
-pub struct Ready<'a> {
+#[derive(Clone, Copy)]
+pub struct Ready<'s, 'p> {
     pub task: Task,
     pub found: Lookup,
-    pub words: Words<'a>,
+    pub words: Words<'s, 'p>,
 }
 
 // Why a command is not ready: tests 1 to 4 refuse it, and it has no reply; or tests 5 to 11 do, of BITFIELD only 5 to 7.
@@ -41,14 +41,14 @@ pub enum NotReady {
 
 // Tests the table, the time, the room for a reply and the command's bytes, in this order. `places` is to hold where the command's words stand, `heads`
 // and `next` where the table's keys do. The form is named here, so that it is known where the tests are compiled.
-pub fn gate<'a>(
+pub fn gate<'s, 'p>(
     table: &[u8],
     query: Query,
-    command: &'a [u8],
-    places: &'a mut [u16; 32],
+    command: &'s [u8],
+    places: &'p mut [u16; 32],
     heads: &mut [u8],
     next: &mut [u8],
-) -> Result<Words<'a>, Refusal>
+) -> Result<Words<'s, 'p>, Refusal>
     requires places_len { length places.old ≡ 32 }
     requires fresh { Fresh form128 table.now heads.old next.old }
     ensures { Gates query table.now command.now heads.new next.new result }
@@ -71,12 +71,12 @@ pub fn gate<'a>(
 
 // Takes a command through the gate, parses it and looks its key up. The index of the table's keys is as large as the table asks, since it costs time
 // to make.
-pub fn prepare<'a>(
+pub fn prepare<'s, 'p>(
     table: &[u8],
     query: Query,
-    command: &'a [u8],
-    places: &'a mut [u16; 32],
-) -> Result<Ready<'a>, NotReady>
+    command: &'s [u8],
+    places: &'p mut [u16; 32],
+) -> Result<Ready<'s, 'p>, NotReady>
     requires { length places.old ≡ 32 }
     ensures { Prepares query table.now command.now result }
 {

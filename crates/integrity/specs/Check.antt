@@ -1,5 +1,6 @@
 -- What the check of a table asks of the arrays of the index, and what it says of the table.
 use Rattle.std.specs.Prelude.{ℕ, ◌≤◌, ◌≡◌, Bool, true, false, ◌&&◌, List, length, get_or, Option, Some, None, Result, Ok, Err}
+use Rattle.outcome.specs.Outcome.{number_of}
 use Rattle.outcome.specs.declared.Refusal.{Refusal}
 use Rattle.model.specs.Bytes.{part}
 use Rattle.model.specs.Optional.{is_some}
@@ -34,7 +35,7 @@ abbrev pub UsedAfter : (r : List ℕ) → Option ℕ → Type 0
 UsedAfter r None = Unit {0}
 UsedAfter r (Some first) = is_used r ≡ true
 
--- what the test of the bytes r of slot i says, and what it leaves in the index
+-- what the test of the bytes r of slot i says, and what it leaves in the index; the one refusal is by 1
 abbrev pub Tests : Form → (i : ℕ) (r heads next heads' next' : List ℕ) → Result (Option ℕ) Refusal → Type 0
 Tests f i r h n h' n' (Ok o) = (is_some (read_slot f r) ≡ true) × UsedAfter r o × EntersUsed i r h n (slot_entry o) h' n'
-Tests f i r h n h' n' (Err e) = is_some (read_slot f r) ≡ false
+Tests f i r h n h' n' (Err e) = (is_some (read_slot f r) ≡ false) × (number_of e ≡ 1)

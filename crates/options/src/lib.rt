@@ -4,6 +4,7 @@
 ghost use Rattle.std.specs.Prelude.{◌≡◌, ◌<◌, List, ℕ, length, drop};
 ghost use Rattle.model.specs.Command.{kind_no, opt_rule_of};
 ghost use Rattle.model.specs.Options.{Given as ModelGiven, takes, enough, options_in};
+ghost use Rattle.resp.specs.Held.{words_in};
 ghost use Rattle.command.specs.Words.{model_opt};
 ghost use Rattle.command.specs.Rules.{model_rule};
 ghost use Rattle.options.specs.Options.{Tied, Takes, Collects};
@@ -114,9 +115,9 @@ fn takes(rule: Rule, opt: Opt) -> bool
 }
 
 // The option that word `i` spells, which must be one that the command takes, and the word after it if a number follows, which must be there.
-fn take_option(words: &Words<'_>, rule: Rule, i: usize) -> Result<Taken, Refusal>
-    requires { i < length words.now }
-    ensures { Takes (model_rule rule) words.now i result }
+fn take_option(words: &Words<'_, '_>, rule: Rule, i: usize) -> Result<Taken, Refusal>
+    requires { i < length (words_in words.now) }
+    ensures { Takes (model_rule rule) (words_in words.now) i result }
 {
     let count = words.len();
     let opt = keyword::option_of(words.word(i))?;
@@ -152,8 +153,8 @@ fn enough(rule: Rule, o: Options) -> bool
 }
 
 // The options of a command, which stand after the fixed words.
-pub fn options_in(words: &Words<'_>, rule: Rule) -> Result<Options, Refusal>
-    ensures { Collects words.now (options_in (model_rule rule) (drop rule.fixed words.now)) result }
+pub fn options_in(words: &Words<'_, '_>, rule: Rule) -> Result<Options, Refusal>
+    ensures { Collects (words_in words.now) (options_in (model_rule rule) (drop rule.fixed (words_in words.now))) result }
 {
     let mut options = Options { groups: [None; 10] };
     let mut i = rule.fixed;

@@ -1,16 +1,15 @@
 // The words of a command in RESP2, taken by a reader that holds the command and its place in it. No function but `read_words` holds a reader.
 #![tactic(auto)]
 
-ghost use Rattle.std.specs.Prelude.{◌≡◌, List, ℕ, false, ◌+◌, ◌≤◌, ◌<◌, length, drop, get_or, leb};
+ghost use Rattle.std.specs.Prelude.{◌≡◌, false, ◌+◌, ◌≤◌, ◌<◌, length, drop, get_or, leb};
 ghost use Rattle.model.specs.Checked.{given};
 ghost use Rattle.model.specs.Resp.{command_limit, word_limit, decode};
 ghost use Rattle.model.specs.Parse.{word_at};
 ghost use Rattle.outcome.specs.Outcome.{checked};
 ghost use Rattle.resp.specs.Words.{digit_at, ends_line, line_from, word_from};
-ghost use Rattle.resp.specs.Spans.{words_of, span_at, Begins, Notes, noted, WordsRead, Splits, Counted};
+ghost use Rattle.resp.specs.Spans.{words_of, span_at, span_in, Begins, Notes, noted, WordsRead, Splits, Counted};
 
 use outcome::Refusal;
-use std::marker::Model;
 
 // A line's number, and the place after the line.
 #[derive(Clone, Copy)]
@@ -43,19 +42,13 @@ pub struct Reader<'a> {
 
 // The words of a command: its bytes, and where each of its words stands in them. Kept: places and their number are a buffer with a length, since the
 // library has no heap.
-#[derive(Drop)]
-pub struct Words<'a> {
-    bytes: &'a [u8],
-    places: &'a [u16; 32],
+#[derive(Clone, Copy)]
+pub struct Words<'s, 'p> {
+    bytes: &'s [u8],
+    places: &'p [u16; 32],
     count: usize,
-}
-
-impl<'a> Model for Words<'a> {
-    ghost Value = { List (List ℕ) };
-
-    ghost view = { λ w. words_of w.bytes.now };
-
-    ghost invariant = { λ w. Splits w.bytes.now w.places.now × (w.count ≡ length (words_of w.bytes.now)) };
+    ghost split: { Splits bytes.now places.now },
+    ghost counted: { count ≡ length (words_of bytes.now) },
 }
 
 // The digit at place `at`.
@@ -223,9 +216,9 @@ fn count_words(s: &[u8], places: &mut [u16; 32]) -> Option<usize>
 }
 
 // The words of a whole command, with nothing after the last; `places` is to hold where they stand.
-pub fn split<'a>(s: &'a [u8], places: &'a mut [u16; 32]) -> Result<Words<'a>, Refusal>
+pub fn split<'s, 'p>(s: &'s [u8], places: &'p mut [u16; 32]) -> Result<Words<'s, 'p>, Refusal>
     requires { length places.old ≡ 32 }
-    ensures { checked (λ ws. ws) result ≡ given 4 (decode s.now) }
+    ensures { checked (λ w. words_of w.bytes.now) result ≡ given 4 (decode s.now) }
 {
     let Some(count) = count_words(s, places) else {
         return Err(Refusal::Malformed);
@@ -237,10 +230,12 @@ pub fn split<'a>(s: &'a [u8], places: &'a mut [u16; 32]) -> Result<Words<'a>, Re
     })
 }
 
-impl<'a> Words<'a> {
+impl<'s, 'p> Words<'s, 'p> {
+    ghost use Rattle.resp.specs.Held.{words_in};
+
     // How many there are.
     pub fn len(&self) -> usize
-        ensures value { result ≡ length self.now }
+        ensures value { result ≡ length (words_in self.now) }
         ensures few { result ≤ word_limit }
     {
         self.count
@@ -249,7 +244,8 @@ impl<'a> Words<'a> {
     // Where word `i` stands in the command.
     pub fn span(&self, i: usize) -> Span
         requires { i < word_limit }
-        ensures { i < length self.now → result ≡ span_at i self.now }
+        ensures noted { result ≡ span_in self.now.places.now i }
+        ensures word { i < length (words_in self.now) → result ≡ span_at i (words_in self.now) }
     {
         let places = self.places;
         Span {
@@ -259,8 +255,8 @@ impl<'a> Words<'a> {
     }
 
     // Word `i`, and the empty part where there is none.
-    pub fn word(&self, i: usize) -> &'a [u8]
-        ensures { result.now ≡ word_at i self.now }
+    pub fn word(&self, i: usize) -> &'s [u8]
+        ensures { result.now ≡ word_at i (words_in self.now) }
     {
         if i < self.count {
             let w = self.span(i);

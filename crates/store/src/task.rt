@@ -1,4 +1,5 @@
 // A command after its parse, once its key is looked up.
+ghost use Rattle.resp.specs.Held.{words_in};
 ghost use Rattle.live.specs.Under.{shape_of};
 ghost use Rattle.execute.specs.Does.{held, Does};
 ghost use Rattle.store.specs.Runs.{CanRun, effect_in};
@@ -13,11 +14,11 @@ pub fn carry_out(
     table: &mut [u8],
     target: Target,
     task: Task,
-    words: &Words<'_>,
+    words: &Words<'_, '_>,
     reply: &mut [u8],
 ) -> Answer
-    requires can_run { CanRun target task words.now (held table.old reply.old) }
-    ensures { Does (shape_of target) (held table.old reply.old) (held table.new reply.new) (effect_in target task table.old words.now) result }
+    requires can_run { CanRun target task (words_in words.now) (held table.old reply.old) }
+    ensures { Does (shape_of target) (held table.old reply.old) (held table.new reply.new) (effect_in target task table.old (words_in words.now)) result }
 {
     let key = words.word(1);
     match task {

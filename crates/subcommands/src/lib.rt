@@ -6,6 +6,7 @@ mod word;
 ghost use Rattle.std.specs.Prelude.{◌≡◌, ◌≤◌, drop, IfOk};
 ghost use Rattle.model.specs.Subcommands.{arity, subcommands_in};
 ghost use Rattle.outcome.specs.Outcome.{checked};
+ghost use Rattle.resp.specs.Held.{words_in};
 ghost use Rattle.command.specs.Subcommand.{model_mode, model_subs};
 ghost use Rattle.command.specs.Words.{model_sub_name};
 ghost use Rattle.subcommands.specs.Steps.{Does};
@@ -51,8 +52,8 @@ fn operation_of(name: SubName, mode: Mode) -> Option<Operation>
 }
 
 // The subcommands of a command, which stand after the key. One that is wrong is refused only after the last, since test 8 comes before 9.
-pub fn subcommands_in(words: &Words<'_>) -> Result<Subs, Refusal>
-    ensures subs { checked model_subs result ≡ subcommands_in (drop 2 words.now) }
+pub fn subcommands_in(words: &Words<'_, '_>) -> Result<Subs, Refusal>
+    ensures subs { checked model_subs result ≡ subcommands_in (drop 2 (words_in words.now)) }
     ensures few { IfOk result (λ s. s.count ≤ 4) }
 {
     let mut list = [NO_SUB; 4];

@@ -6,6 +6,7 @@ ghost use Rattle.model.specs.Checked.{ok};
 ghost use Rattle.model.specs.Table.{time_limit};
 ghost use Rattle.model.specs.Options.{Given as ModelGiven, lifetime_by, lifetime_in, change_by, change_in, flags_in, bound_in, numbers_in, ordered, presence_in, said_with, said_in};
 ghost use Rattle.outcome.specs.Outcome.{to_model, checked};
+ghost use Rattle.resp.specs.Held.{words_in};
 ghost use Rattle.command.specs.Command.{model_presence, model_change, model_expire};
 ghost use Rattle.command.specs.Words.{model_opt};
 ghost use Rattle.expiry.specs.Expiry.{model_lifetime};
@@ -43,8 +44,8 @@ pub struct Said {
 // ---- the numbers
 
 // The word of an option's number, empty where no number follows.
-fn number_word<'a>(words: &Words<'a>, g: Given) -> &'a [u8]
-    ensures { result.now ≡ number_word words.now g.word }
+fn number_word<'s>(words: &Words<'s, '_>, g: Given) -> &'s [u8]
+    ensures { result.now ≡ number_word (words_in words.now) g.word }
 {
     match g.word {
         Some(i) => words.word(usize::from(i)),
@@ -70,8 +71,8 @@ fn lifetime_by(opt: Opt, w: &[u8]) -> Result<Lifetime, Refusal>
 }
 
 // What a time word or KEEPTTL says.
-fn lifetime_in(words: &Words<'_>, g: Option<Given>) -> Result<Lifetime, Refusal>
-    ensures { checked model_lifetime result ≡ lifetime_in (model_given words.now g) }
+fn lifetime_in(words: &Words<'_, '_>, g: Option<Given>) -> Result<Lifetime, Refusal>
+    ensures { checked model_lifetime result ≡ lifetime_in (model_given (words_in words.now) g) }
 {
     let Some(g) = g else {
         return Ok(Lifetime::Unsaid);
@@ -91,8 +92,8 @@ fn change_by(opt: Opt, n: u64) -> Change
 }
 
 // What becomes of the version.
-fn change_in(words: &Words<'_>, g: Option<Given>) -> Result<Change, Refusal>
-    ensures { checked model_change result ≡ change_in (model_given words.now g) }
+fn change_in(words: &Words<'_, '_>, g: Option<Given>) -> Result<Change, Refusal>
+    ensures { checked model_change result ≡ change_in (model_given (words_in words.now) g) }
 {
     let Some(g) = g else {
         return Ok(Change::Raise);
@@ -104,8 +105,8 @@ fn change_in(words: &Words<'_>, g: Option<Given>) -> Result<Change, Refusal>
 }
 
 // The flags that FLAGS sets.
-fn flags_in(words: &Words<'_>, g: Option<Given>) -> Result<u32, Refusal>
-    ensures { checked (λ n. n) result ≡ flags_in (model_given words.now g) }
+fn flags_in(words: &Words<'_, '_>, g: Option<Given>) -> Result<u32, Refusal>
+    ensures { checked (λ n. n) result ≡ flags_in (model_given (words_in words.now) g) }
 {
     let Some(g) = g else {
         return Ok(0);
@@ -117,8 +118,8 @@ fn flags_in(words: &Words<'_>, g: Option<Given>) -> Result<u32, Refusal>
 }
 
 // The bound that MIN or MAX sets.
-fn bound_in(words: &Words<'_>, g: Option<Given>) -> Result<Option<i64>, Refusal>
-    ensures { checked to_model result ≡ bound_in (model_given words.now g) }
+fn bound_in(words: &Words<'_, '_>, g: Option<Given>) -> Result<Option<i64>, Refusal>
+    ensures { checked to_model result ≡ bound_in (model_given (words_in words.now) g) }
 {
     let Some(g) = g else {
         return Ok(None);
@@ -131,8 +132,8 @@ fn bound_in(words: &Words<'_>, g: Option<Given>) -> Result<Option<i64>, Refusal>
 
 // The numbers that the options of a command say: test 9.
 #[tactic(auto, unfolding(model::specs::Options::numbers_in))]
-fn numbers_in(words: &Words<'_>, o: Options) -> Result<Numbers, Refusal>
-    ensures { (gs : List ModelGiven) → Tied words.now gs o → checked model_numbers result ≡ numbers_in gs }
+fn numbers_in(words: &Words<'_, '_>, o: Options) -> Result<Numbers, Refusal>
+    ensures { (gs : List ModelGiven) → Tied (words_in words.now) gs o → checked model_numbers result ≡ numbers_in gs }
 {
     let lifetime = lifetime_in(words, o.groups[options::TIME])?;
     let change = change_in(words, o.groups[options::VERSION])?;
@@ -215,9 +216,9 @@ pub fn unsaid(keeps: bool) -> Said
 
 // What the options of a command say at the time `time`; where none says so, the expiry is kept or cleared: tests 9 to 11.
 #[tactic(auto, unfolding(model::specs::Options::said_in))]
-pub fn said_in(words: &Words<'_>, time: u64, keeps: bool, o: Options) -> Result<Said, Refusal>
+pub fn said_in(words: &Words<'_, '_>, time: u64, keeps: bool, o: Options) -> Result<Said, Refusal>
     requires { time ≤ time_limit }
-    ensures { (gs : List ModelGiven) → Tied words.now gs o → checked model_said result ≡ said_in time keeps gs }
+    ensures { (gs : List ModelGiven) → Tied (words_in words.now) gs o → checked model_said result ≡ said_in time keeps gs }
 {
     let x = numbers_in(words, o)?;
     let expire = expire_in(time, keeps, x.lifetime)?;

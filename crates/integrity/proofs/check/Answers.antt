@@ -149,7 +149,7 @@ loop-i-preserved c =
 pub returns-in-Err : goal.returns-in-Err
 returns-in-Err c =
     let e = (goal.at.returns-in-Err c).After-enter in
-    refused (f e) (t e) (not-read _ _ _ (within e) (told e c.in-Err.is))
+    refused (f e) (t e) (not-read _ _ _ (within e) (told e c.in-Err.is).0)
 
 pub returns : goal.returns
 returns c =

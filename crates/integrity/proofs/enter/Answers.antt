@@ -36,10 +36,10 @@ returns-then-is_zero c =
     (sym (zeros-told z) ∙ c.if-is_zero.true, tt, record { used = λ u. never _ u (unused z); unused = λ _. (refl, refl) })
 
 pub returns-then-not-in_use : goal.returns-then-not-in_use
-returns-then-not-in_use c = sym (zeros-told (goal.at.returns-then-not-in_use c).After-is_zero) ∙ c.if-is_zero.false
+returns-then-not-in_use c = (sym (zeros-told (goal.at.returns-then-not-in_use c).After-is_zero) ∙ c.if-is_zero.false, refl)
 
 pub returns-then-not-is_record : goal.returns-then-not-is_record
-returns-then-not-is_record c = sym (record-told (goal.at.returns-then-not-is_record c).After-is_record) ∙ c.if-not-is_record.true
+returns-then-not-is_record c = (sym (record-told (goal.at.returns-then-not-is_record c).After-is_record) ∙ c.if-not-is_record.true, refl)
 
 pub returns : goal.returns
 returns c =

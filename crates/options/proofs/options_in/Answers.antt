@@ -1,4 +1,5 @@
 use Rattle.std.proofs.Common.{sym, ◌∙◌, arith}
+use Rattle.resp.specs.Held.{words_in}
 use Rattle.options.proofs.Taking.{reached-next, reads_all, reads-few}
 use Rattle.options.proofs.options_in.Goals as goal
 
@@ -9,9 +10,9 @@ loop-i-preserved c =
 pub returns-then-enough : goal.returns-then-enough
 returns-then-enough c =
     let b = c.loop-i.invariant in
-    reads_all b (omega arith) (sym (c.enough.ensures c.args.words.now b.given b.tied) ∙ c.if-enough.true)
+    reads_all b (omega arith) (sym (c.enough.ensures (words_in c.args.words.now) b.given b.tied) ∙ c.if-enough.true)
 
 pub returns : goal.returns
 returns c =
     let b = c.loop-i.invariant in
-    reads-few b (omega arith) (sym (c.enough.ensures c.args.words.now b.given b.tied) ∙ c.if-enough.false)
+    reads-few b (omega arith) (sym (c.enough.ensures (words_in c.args.words.now) b.given b.tied) ∙ c.if-enough.false)

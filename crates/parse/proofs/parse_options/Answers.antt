@@ -6,6 +6,7 @@ use Rattle.model.specs.Command.{Action, under}
 use Rattle.model.specs.Parse.{word_at, read_fixed}
 use Rattle.outcome.specs.Outcome.{checked}
 use Rattle.outcome.specs.declared.Refusal.{Refusal}
+use Rattle.resp.specs.Held.{words_in}
 use Rattle.command.specs.Rules.{model_number}
 use Rattle.command.specs.declared.Rule.{Rule}
 use Rattle.command.specs.Words.{model_name}
@@ -24,41 +25,41 @@ under_is : (ws : List (List ℕ)) {a b : Action} → a ≡ b → ok (under (word
 under_is ws e = ap (λ (a : Action). ok (under (word_at 1 ws) a)) e
 
 pub returns-then-rule : goal.returns-then-rule
-returns-then-rule c = none-given c.args.time c.args.words.now (model_name c.args.name) c.args.rule c.requires.rule (omega arith) c.if-rule.true
+returns-then-rule c = none-given c.args.time (words_in c.args.words.now) (model_name c.args.name) c.args.rule c.requires.rule (omega arith) c.if-rule.true
 
 pub returns-in_err-fixed : goal.returns-in_err-fixed
 returns-in_err-fixed c =
     let p = err_from_is_err_and c.from_residual.result c.from_residual.ensures.1 in
     rw (p.1, p.2)
-    (numbers-in-turn c.args.time c.args.words.now (model_name c.args.name) c.args.rule c.requires.rule [] (Err c.in_err-fixed.field-0.0) (at_word c.args.rule (Err c.in_err-fixed.field-0.0) c.word-word.ensures c.in_err-fixed.ensures) refl
-    ∙ none-given c.args.time c.args.words.now (model_name c.args.name) c.args.rule c.requires.rule (omega arith) c.if-rule.false)
+    (numbers-in-turn c.args.time (words_in c.args.words.now) (model_name c.args.name) c.args.rule c.requires.rule [] (Err c.in_err-fixed.field-0.0) (at_word c.args.rule (Err c.in_err-fixed.field-0.0) c.word-word.ensures c.in_err-fixed.ensures) refl
+    ∙ none-given c.args.time (words_in c.args.words.now) (model_name c.args.name) c.args.rule c.requires.rule (omega arith) c.if-rule.false)
 
 pub returns-then-len-rule : goal.returns-then-len-rule
 returns-then-len-rule c =
-    under_is c.args.words.now (c.action_of.ensures (word_at 2 c.args.words.now))
-    ∙ (numbers-in-turn c.args.time c.args.words.now (model_name c.args.name) c.args.rule c.requires.rule [] (Ok c.in_ok-fixed.field-0) (at_word c.args.rule (Ok c.in_ok-fixed.field-0) c.word-word.ensures c.in_ok-fixed.ensures)
+    under_is (words_in c.args.words.now) (c.action_of.ensures (word_at 2 (words_in c.args.words.now)))
+    ∙ (numbers-in-turn c.args.time (words_in c.args.words.now) (model_name c.args.name) c.args.rule c.requires.rule [] (Ok c.in_ok-fixed.field-0) (at_word c.args.rule (Ok c.in_ok-fixed.field-0) c.word-word.ensures c.in_ok-fixed.ensures)
     (c.unsaid-said.ensures c.args.time)
-    ∙ none-given c.args.time c.args.words.now (model_name c.args.name) c.args.rule c.requires.rule (omega arith) c.if-rule.false)
+    ∙ none-given c.args.time (words_in c.args.words.now) (model_name c.args.name) c.args.rule c.requires.rule (omega arith) c.if-rule.false)
 
 pub returns-in_err-fixed-2 : goal.returns-in_err-fixed-2
 returns-in_err-fixed-2 c =
     let p = err_from_is_err_and c.from_residual-in_err-fixed-2.result c.from_residual-in_err-fixed-2.ensures.1 in
     rw (p.1, p.2)
-    (numbers-in-turn c.args.time c.args.words.now (model_name c.args.name) c.args.rule c.requires.rule c.in_ok-o.ensures.given (Err c.in_err-fixed-2.field-0.0) (at_word c.args.rule (Err c.in_err-fixed-2.field-0.0) c.word-word.ensures c.in_err-fixed-2.ensures) refl
-    ∙ some-given c.args.time c.args.words.now (model_name c.args.name) c.args.rule c.requires.rule c.in_ok-o.ensures.told)
+    (numbers-in-turn c.args.time (words_in c.args.words.now) (model_name c.args.name) c.args.rule c.requires.rule c.in_ok-o.ensures.given (Err c.in_err-fixed-2.field-0.0) (at_word c.args.rule (Err c.in_err-fixed-2.field-0.0) c.word-word.ensures c.in_err-fixed-2.ensures) refl
+    ∙ some-given c.args.time (words_in c.args.words.now) (model_name c.args.name) c.args.rule c.requires.rule c.in_ok-o.ensures.told)
 
 pub returns-in_err-said : goal.returns-in_err-said
 returns-in_err-said c =
     let p = err_from_is_err_and c.from_residual-in_err-said.result c.from_residual-in_err-said.ensures.1 in
     rw (p.1, p.2)
-    (numbers-in-turn c.args.time c.args.words.now (model_name c.args.name) c.args.rule c.requires.rule c.in_ok-o.ensures.given (Ok c.in_ok-fixed-2.fixed) (at_word c.args.rule (Ok c.in_ok-fixed-2.fixed) c.word-word.ensures c.in_ok-fixed-2.ensures)
+    (numbers-in-turn c.args.time (words_in c.args.words.now) (model_name c.args.name) c.args.rule c.requires.rule c.in_ok-o.ensures.given (Ok c.in_ok-fixed-2.fixed) (at_word c.args.rule (Ok c.in_ok-fixed-2.fixed) c.word-word.ensures c.in_ok-fixed-2.ensures)
     (c.in_err-said.ensures c.in_ok-o.ensures.given c.in_ok-o.ensures.tied)
-    ∙ some-given c.args.time c.args.words.now (model_name c.args.name) c.args.rule c.requires.rule c.in_ok-o.ensures.told)
+    ∙ some-given c.args.time (words_in c.args.words.now) (model_name c.args.name) c.args.rule c.requires.rule c.in_ok-o.ensures.told)
 
 pub returns : goal.returns
 returns c =
     let o = c.in_ok-o.ensures in
-    under_is c.args.words.now (c.action_of-2.ensures (word_at 2 c.args.words.now))
-    ∙ (numbers-in-turn c.args.time c.args.words.now (model_name c.args.name) c.args.rule c.requires.rule o.given (Ok c.in_ok-fixed-2.fixed) (at_word c.args.rule (Ok c.in_ok-fixed-2.fixed) c.word-word.ensures c.in_ok-fixed-2.ensures)
+    under_is (words_in c.args.words.now) (c.action_of-2.ensures (word_at 2 (words_in c.args.words.now)))
+    ∙ (numbers-in-turn c.args.time (words_in c.args.words.now) (model_name c.args.name) c.args.rule c.requires.rule o.given (Ok c.in_ok-fixed-2.fixed) (at_word c.args.rule (Ok c.in_ok-fixed-2.fixed) c.word-word.ensures c.in_ok-fixed-2.ensures)
     (c.in_ok-said.ensures o.given o.tied)
-    ∙ some-given c.args.time c.args.words.now (model_name c.args.name) c.args.rule c.requires.rule c.in_ok-o.ensures.told)
+    ∙ some-given c.args.time (words_in c.args.words.now) (model_name c.args.name) c.args.rule c.requires.rule c.in_ok-o.ensures.told)

@@ -9,6 +9,7 @@ use Rattle.model.specs.Execute.{execute}
 use Rattle.model.proofs.Replies.{roomy128}
 use Rattle.outcome.specs.Outcome.{number_of}
 use Rattle.outcome.specs.declared.Refusal.{Refusal}
+use Rattle.resp.specs.Held.{words_in}
 use Rattle.table.specs.Slots.{slots_of}
 use Rattle.access.proofs.Doing.{error-in, does-refuse}
 use Rattle.entry.specs.declared.Query.{Query}
@@ -57,4 +58,4 @@ returns-in-Ok c =
     let q = query c.args.time c.args.reply.now in
     let r = c.in-Ok.ensures in
     called-passed q c.args.table.now c.args.command.now refl r.entered
-    (does-as (run c.args.time c.args.table.now c.in-Ok.ready.words (sym r.parsed)) c.carry_out.ensures)
+    (does-as (run c.args.time c.args.table.now (words_in c.in-Ok.ready.words) (sym r.parsed)) c.carry_out.ensures)

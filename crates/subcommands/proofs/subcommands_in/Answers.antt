@@ -7,6 +7,7 @@ use Rattle.model.specs.Checked.{Checked, ok, given}
 use Rattle.model.specs.Command.{look}
 use Rattle.model.specs.Overflow as overflow
 use Rattle.model.specs.Subcommands.{SubName, sub_names, modes, arity}
+use Rattle.resp.specs.Held.{words_in}
 use Rattle.command.specs.Subcommand.{model_mode, model_sub}
 use Rattle.command.specs.declared.subcommand.Operation.{Operation}
 use Rattle.subcommands.specs.Words.{sub_by}
@@ -30,44 +31,44 @@ cut : (op : Operation) {t t' o o' n n' : List ℕ} → t ≡ t' → o ≡ o' →
 cut op p q r = λ i. given 9 (sub_by op (p i) (q i) (r i))
 
 pub loop-i-init : goal.loop-i-init
-loop-i-init c = reached-first c.args.words.now _ refl
+loop-i-init c = reached-first (words_in c.args.words.now) _ refl
 
 pub returns-in_err-name-clause-subs : goal.returns-in_err-name-clause-subs
 returns-in_err-name-clause-subs c =
     let p = err_from_is_err_and c.from_residual.result c.from_residual.ensures.1 in
-    rw (p.1, p.2) (refused c.loop-i.invariant (at-unknown c.args.words.now c.loop-i.i (omega arith) (model_mode c.loop-i.mode) c.loop-i.wrong (map model_sub (take c.loop-i.count c.loop-i.list))
+    rw (p.1, p.2) (refused c.loop-i.invariant (at-unknown (words_in c.args.words.now) c.loop-i.i (omega arith) (model_mode c.loop-i.mode) c.loop-i.wrong (map model_sub (take c.loop-i.count c.loop-i.list))
     (named c.in_err-name.ensures c.word.ensures)))
 
 pub returns-then-len-i-clause-subs : goal.returns-then-len-i-clause-subs
 returns-then-len-i-clause-subs c =
-    refused c.loop-i.invariant (at-short c.args.words.now c.loop-i.i (omega arith) (model_mode c.loop-i.mode) c.loop-i.wrong (map model_sub (take c.loop-i.count c.loop-i.list))
+    refused c.loop-i.invariant (at-short (words_in c.args.words.now) c.loop-i.i (omega arith) (model_mode c.loop-i.mode) c.loop-i.wrong (map model_sub (take c.loop-i.count c.loop-i.list))
     _ (known c.in_ok-name.ensures c.word.ensures refl) (omega (arith, c.arity.ensures)))
 
 pub returns-in_err-mode-in-None-clause-subs : goal.returns-in_err-mode-in-None-clause-subs
 returns-in_err-mode-in-None-clause-subs c =
     let p = err_from_is_err_and c.from_residual-in_err-mode-in-None.result c.from_residual-in_err-mode-in-None.ensures.1 in
-    rw (p.1, p.2) (refused c.loop-i.invariant (at-no_mode c.args.words.now c.loop-i.i (omega arith) (model_mode c.loop-i.mode) c.loop-i.wrong (map model_sub (take c.loop-i.count c.loop-i.list))
+    rw (p.1, p.2) (refused c.loop-i.invariant (at-no_mode (words_in c.args.words.now) c.loop-i.i (omega arith) (model_mode c.loop-i.mode) c.loop-i.wrong (map model_sub (take c.loop-i.count c.loop-i.list))
     (known c.in_ok-name.ensures c.word.ensures c.in-None.ensures) (mode-named c.in_err-mode-in-None.ensures c.word-in-None.ensures)))
 
 pub loop-i-preserved-in-None : goal.loop-i-preserved-in-None
 loop-i-preserved-in-None c =
-    reached-mode c.loop-i.invariant (omega arith) (at-mode c.args.words.now c.loop-i.i (omega arith) (model_mode c.loop-i.mode) c.loop-i.wrong (map model_sub (take c.loop-i.count c.loop-i.list))
+    reached-mode c.loop-i.invariant (omega arith) (at-mode (words_in c.args.words.now) c.loop-i.i (omega arith) (model_mode c.loop-i.mode) c.loop-i.wrong (map model_sub (take c.loop-i.count c.loop-i.list))
     (known c.in_ok-name.ensures c.word.ensures c.in-None.ensures) (c.loop-i.i + 1 + c.arity.result)
     (omega (arith, c.arity.ensures, ap arity c.in-None.ensures)) (omega arith) (mode-named c.in_ok-mode-in-None.ensures c.word-in-None.ensures))
 
 pub loop-i-preserved-in-Ok : goal.loop-i-preserved-in-Ok
 loop-i-preserved-in-Ok c =
-    reached-sub c.loop-i.invariant (goes c.args.words.now c.loop-i.i (omega arith) (model_mode c.loop-i.mode) c.loop-i.wrong (map model_sub (take c.loop-i.count c.loop-i.list))
+    reached-sub c.loop-i.invariant (goes (words_in c.args.words.now) c.loop-i.i (omega arith) (model_mode c.loop-i.mode) c.loop-i.wrong (map model_sub (take c.loop-i.count c.loop-i.list))
     c.in-Some.operation c.in-Some.ensures.1 (known c.in_ok-name.ensures c.word.ensures c.in-Some.ensures.0) (c.loop-i.i + 1 + c.arity.result)
     (omega (arith, c.arity.ensures, ap arity c.in-Some.ensures.0)) (omega arith)) (omega arith) c.in-Ok.sub
-    (at-sub c.args.words.now c.loop-i.i (omega arith) (model_mode c.loop-i.mode) c.loop-i.wrong (map model_sub (take c.loop-i.count c.loop-i.list))
+    (at-sub (words_in c.args.words.now) c.loop-i.i (omega arith) (model_mode c.loop-i.mode) c.loop-i.wrong (map model_sub (take c.loop-i.count c.loop-i.list))
     c.in-Some.operation c.in-Some.ensures.1 (known c.in_ok-name.ensures c.word.ensures c.in-Some.ensures.0) (c.loop-i.i + 1 + c.arity.result)
     (omega (arith, c.arity.ensures, ap arity c.in-Some.ensures.0)) (omega arith)
     c.in-Ok.sub (c.in-Ok.ensures ∙ cut c.in-Some.operation c.word-int.ensures c.word-offset.ensures c.word-number.ensures))
 
 pub loop-i-preserved : goal.loop-i-preserved
 loop-i-preserved c =
-    reached-wrong c.loop-i.invariant (omega arith) (at-wrong c.args.words.now c.loop-i.i (omega arith) (model_mode c.loop-i.mode) c.loop-i.wrong (map model_sub (take c.loop-i.count c.loop-i.list))
+    reached-wrong c.loop-i.invariant (omega arith) (at-wrong (words_in c.args.words.now) c.loop-i.i (omega arith) (model_mode c.loop-i.mode) c.loop-i.wrong (map model_sub (take c.loop-i.count c.loop-i.list))
     c.in-Some.operation c.in-Some.ensures.1 (known c.in_ok-name.ensures c.word.ensures c.in-Some.ensures.0) (c.loop-i.i + 1 + c.arity.result)
     (omega (arith, c.arity.ensures, ap arity c.in-Some.ensures.0)) (omega arith)
     (c.in-Err.ensures ∙ cut c.in-Some.operation c.word-int.ensures c.word-offset.ensures c.word-number.ensures))

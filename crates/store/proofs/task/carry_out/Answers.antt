@@ -6,6 +6,7 @@ use Rattle.model.specs.Parse.{word_at, parse_subcommands, parse}
 use Rattle.model.specs.Execute.{Effect}
 use Rattle.model.proofs.Commands.{Known}
 use Rattle.outcome.specs.Outcome.{number_of}
+use Rattle.resp.specs.Held.{words_in}
 use Rattle.command.specs.Command.{model_command, checked_task}
 use Rattle.command.specs.declared.Action as code
 use Rattle.command.specs.declared.Task.{Task}
@@ -50,37 +51,38 @@ execute-requires-clause-action_fits c = action-fits c.in-Action.action (acted c.
 
 pub error-requires : goal.error-requires
 error-requires c =
-    let p = refused c.args.words.now (shape_of c.args.target) c.args.target.time (read c.requires.can_run c.in-Bitfield.is) c.in-Err.refusal c.in-Err.ensures in
+    let p = refused (words_in c.args.words.now) (shape_of c.args.target) c.args.target.time (read c.requires.can_run c.in-Bitfield.is) c.in-Err.refusal c.in-Err.ensures in
     (error-in c.requires.can_run.room (number_of c.in-Err.refusal), omega (arith, p.least), omega (arith, p.most))
 
 pub bitfield-requires : goal.bitfield-requires
 bitfield-requires c =
     let e = read c.requires.can_run c.in-Bitfield.is in
     let a = c.args in
+    let ws = words_in a.words.now in
     let f = shape_of a.target in
     let subs = c.in-Ok.ensures.subs in
     record {
-      ready = ready c.requires.can_run c.word-key.ensures (known a.words.now f a.target.time e c.in-Ok.subs subs);
-      fields_fit = fields_fit a.words.now f a.target.time e c.in-Ok.subs subs c.in-Ok.ensures.few;
+      ready = ready c.requires.can_run c.word-key.ensures (known ws f a.target.time e c.in-Ok.subs subs);
+      fields_fit = fields_fit ws f a.target.time e c.in-Ok.subs subs c.in-Ok.ensures.few;
     }
 
 pub returns-in-Action : goal.returns-in-Action
 returns-in-Action c =
     does-as
-    (by-task c.args.target c.args.table.now c.args.words.now c.in-Action.is
-    ∙ action-done c.args.table.now c.args.target c.args.words.now c.in-Action.action c.word-key.ensures c.word-value.ensures (under c.requires.can_run c.word-key.ensures))
+    (by-task c.args.target c.args.table.now (words_in c.args.words.now) c.in-Action.is
+    ∙ action-done c.args.table.now c.args.target (words_in c.args.words.now) c.in-Action.action c.word-key.ensures c.word-value.ensures (under c.requires.can_run c.word-key.ensures))
     c.execute.ensures
 
 pub returns-in-Err : goal.returns-in-Err
 returns-in-Err c =
     does-refuse _ c.args.table.now _ _ _ _
-    (by-task c.args.target c.args.table.now c.args.words.now c.in-Bitfield.is
-    ∙ fields-refused c.args.words.now c.args.table.now c.args.target c.in-Err.refusal c.in-Err.ensures)
+    (by-task c.args.target c.args.table.now (words_in c.args.words.now) c.in-Bitfield.is
+    ∙ fields-refused (words_in c.args.words.now) c.args.table.now c.args.target c.in-Err.refusal c.in-Err.ensures)
     c.error.ensures
 
 pub returns-in-Ok : goal.returns-in-Ok
 returns-in-Ok c =
     does-as
-    (by-task c.args.target c.args.table.now c.args.words.now c.in-Bitfield.is
-    ∙ fields-done c.args.words.now c.args.table.now c.args.target c.in-Ok.subs c.in-Ok.ensures.subs c.word-key.ensures (under c.requires.can_run c.word-key.ensures))
+    (by-task c.args.target c.args.table.now (words_in c.args.words.now) c.in-Bitfield.is
+    ∙ fields-done (words_in c.args.words.now) c.args.table.now c.args.target c.in-Ok.subs c.in-Ok.ensures.subs c.word-key.ensures (under c.requires.can_run c.word-key.ensures))
     c.bitfield.ensures
