@@ -15,13 +15,28 @@ use std::io;
 use std::io::Read;
 
 // The room for a script.
-const ROOM: u64 = 4096;
+const ROOM: usize = 4096;
+
+// Reads standard input to its end, or until the buffer is full, and gives back what came.
+// Kept: a loop of reads, since std's `read_to_end` takes a `Vec`, which could fail.
+fn read_script<'a>(rt: &impl Input, buffer: &'a mut [u8; ROOM]) -> io::Result<&'a [u8]> {
+    let mut input = rt.reader();
+    let mut done = 0;
+    while done < buffer.len() {
+        let got = input.read(&mut buffer[done..])?;
+        if got == 0 {
+            break;
+        }
+        done += got;
+    }
+    Ok(&buffer[..done])
+}
 
 fn main(rt: HostRuntime) -> io::Result<()> {
-    let mut script = Vec::new(rt.alloc());
-    let n = rt.reader().take(ROOM).read_to_end(&mut script)?;
-    if n as u64 == ROOM {
+    let mut buffer = [0u8; ROOM];
+    let script = read_script(&rt, &mut buffer)?;
+    if script.len() == ROOM {
         return terminal::print(&rt, b"the script is longer than its buffer\n");
     }
-    play::play(&rt, &script)
+    play::play(&rt, script)
 }

@@ -10,7 +10,7 @@ const RECORD_SIZE: usize = 128;
 
 impl Stage {
     // Sends a command to the table of one record, and prints the number where it is not 0 and what became of the table.
-    fn row(&mut self, rt: &(impl Print + AllocGlobal), line: &[u8]) -> io::Result<()> {
+    fn row(&mut self, rt: &impl Print, line: &[u8]) -> io::Result<()> {
         let before = self.table;
         let time = self.time;
         let answer = send(rt, &mut self.table[..RECORD_SIZE], time, line)?;
@@ -21,7 +21,7 @@ impl Stage {
     }
 
     // Sends a command to the table of two records, and prints the number where there is no reply.
-    fn run(&mut self, rt: &(impl Print + AllocGlobal), line: &[u8]) -> io::Result<()> {
+    fn run(&mut self, rt: &impl Print, line: &[u8]) -> io::Result<()> {
         let answer = send(rt, &mut self.table, self.time, line)?;
         if answer.len == 0 {
             print_answer_number(rt, answer)?;
@@ -30,7 +30,7 @@ impl Stage {
     }
 
     // Plays one line.
-    fn play_line(&mut self, rt: &(impl Print + AllocGlobal), line: &[u8]) -> io::Result<()> {
+    fn play_line(&mut self, rt: &impl Print, line: &[u8]) -> io::Result<()> {
         match line {
             [] => print(rt, b"\n"),
             [b'>', ..] => print(rt, b"127.0.0.1:6379>\n"),
@@ -42,7 +42,7 @@ impl Stage {
 }
 
 // Plays each line of a script.
-pub fn play(rt: &(impl Print + AllocGlobal), script: &[u8]) -> io::Result<()> {
+pub fn play(rt: &impl Print, script: &[u8]) -> io::Result<()> {
     let mut stage = Stage {
         table: [0u8; 256],
         rows: true,

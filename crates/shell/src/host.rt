@@ -5,12 +5,6 @@ use std::random::RandomSource;
 use std::rt::Files;
 use terminal::Complaints;
 
-pub trait Host: Print
-    + Input
-    + Env
-    + Files<File = File>
-    + RandomSource
-    + AllocGlobal
-    + Complaints {}
+pub trait Host: Print + Input + Env + Files<File = File> + RandomSource + Complaints {}
 
 impl Host for HostRuntime {}

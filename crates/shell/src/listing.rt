@@ -17,7 +17,7 @@ use terminal::Complaints;
 
 // Lists the caller's part of a table, or only counts its records. What breaks the rules is told first.
 fn list_table<'a>(
-    rt: &(impl Print + AllocGlobal + Complaints),
+    rt: &(impl Print + Complaints),
     caller: Caller<'a>,
     table: &[u8],
     time: u64,

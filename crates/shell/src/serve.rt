@@ -55,7 +55,7 @@ fn serve_alone(
 
 // Prints a reply as it is, or as redis-cli does, in one write.
 // Kept: a flag, since a function passed for it would need a clause that it may be called at each step on the way here.
-fn print_as(rt: &(impl Print + AllocGlobal), raw: bool, reply: &[u8]) -> io::Result<()> {
+fn print_as(rt: &impl Print, raw: bool, reply: &[u8]) -> io::Result<()> {
     if raw {
         return print(rt, reply);
     }
@@ -77,7 +77,7 @@ fn tell_unwritten(rt: &impl Complaints, error: io::Error, changed: bool) {
 
 // Prints an answer's reply, or what its refusal stands for, and gives back the exit status.
 fn show(
-    rt: &(impl Print + AllocGlobal + Env + Complaints),
+    rt: &(impl Print + Env + Complaints),
     done: Exchange,
     buffer: &[u8; 128],
     raw: bool,
