@@ -51,7 +51,7 @@ execute-requires-clause-action_fits c = action-fits c.in-Action.action (acted c.
 
 pub error-requires : goal.error-requires
 error-requires c =
-    let p = refused (words_in c.args.words.now) (shape_of c.args.target) c.args.target.time (read c.requires.can_run c.in-Bitfield.is) c.in-Err.refusal c.in-Err.ensures in
+    let p = refused (words_in c.args.words.now) (shape_of c.args.target) c.args.target.time (read c.requires.can_run c.in-Bitfield.is) c.in-Err.refusal c.in-Err.ensures.subs in
     (error-in c.requires.can_run.room (number_of c.in-Err.refusal), omega (arith, p.least), omega (arith, p.most))
 
 pub bitfield-requires : goal.bitfield-requires
@@ -77,7 +77,7 @@ pub returns-in-Err : goal.returns-in-Err
 returns-in-Err c =
     does-refuse _ c.args.table.now _ _ _ _
     (by-task c.args.target c.args.table.now (words_in c.args.words.now) c.in-Bitfield.is
-    ∙ fields-refused (words_in c.args.words.now) c.args.table.now c.args.target c.in-Err.refusal c.in-Err.ensures)
+    ∙ fields-refused (words_in c.args.words.now) c.args.table.now c.args.target c.in-Err.refusal c.in-Err.ensures.subs)
     c.error.ensures
 
 pub returns-in-Ok : goal.returns-in-Ok
