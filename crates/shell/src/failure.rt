@@ -1,4 +1,6 @@
 // Why a run ends without what it was to do: one line for each.
+ghost use Rattle.std.specs.Prelude.{◌≡◌};
+
 use status::REFUSED;
 use std::env::Env;
 use std::io;
@@ -33,7 +35,9 @@ impl From<io::Error> for Failure<'_> {
 
 impl Failure<'_> {
     // Tells it, and gives back the exit status.
-    pub fn tell(self, rt: &(impl Env + Complaints)) -> u64 {
+    pub fn tell(self, rt: &(impl Env + Complaints)) -> u64
+        ensures { result ≡ 2 }
+    {
         match self {
             Failure::Told => {}
             Failure::Because(why) => complain_text(rt, format_args!("pietrunel: {why}\n")),
