@@ -19,7 +19,7 @@ pub returns-then-not-has_size : goal.returns-then-not-has_size
 returns-then-not-has_size c = sym (wrong-length form128 c.args.table.now (sym c.has_size.ensures ∙ c.if-not-has_size.true))
 
 pub loop-i-init : goal.loop-i-init
-loop-i-init c = (omega (arith, c.count.ensures), λ j low high. absurd (omega (arith, c.count.ensures)))
+loop-i-init c = (omega (arith, c.count-i.ensures), λ j low high. absurd (omega (arith, c.count-i.ensures)))
 
 pub returns-then-not-passes : goal.returns-then-not-passes
 returns-then-not-passes c =
