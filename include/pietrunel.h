@@ -36,8 +36,8 @@
  * two on one table may run together. Calls of pietrunel_feed with one buffer of held bytes must be
  * ordered too.
  *
- * Size on x86-64: a call takes less than 5 KiB of stack (measured: 3,328 bytes, a shared one 3,536, and
- * what memset takes), the library less than 34 KiB of code and constants (measured: 32.3 KiB).
+ * Size on x86-64: a call takes less than 5 KiB of stack (measured: 3,280 bytes, a shared one 3,536, and
+ * what memset takes), the library less than 34 KiB of code and constants (measured: 31.3 KiB).
  * bench/footprint measures both: the stack by the frames along the deepest chain of calls in the
  * machine code, the rest by `size`.
  *
