@@ -94,12 +94,12 @@ pub fn fault_of(r: &[u8; SIZE]) -> Option<Fault>
     Some(broken_rule(r))
 }
 
-// Whether two slots hold records in use with equal keys.
+// Whether two slots hold records in use with equal keys. What takes least is tested first.
 fn is_twin(r: &[u8; SIZE], s: &[u8; SIZE]) -> bool {
-    fault_of(s).is_none()
-        && s[USE_AT] == USED
+    s[USE_AT] == USED
         && r[KEY_LENGTH_AT] == s[KEY_LENGTH_AT]
         && r[KEY_AT..VALUE_AT] == s[KEY_AT..VALUE_AT]
+        && fault_of(s).is_none()
 }
 
 // The first slot of a slot's part, where the parts meet at a boundary. At 0 they are one.

@@ -7,7 +7,7 @@ use crate::calendar::Date;
 use crate::fault::fault_of;
 use std::ops::Range;
 use std::{fmt, io};
-use terminal::{Decimal, Quoted};
+use terminal::{Decimal, Quoted, print_line};
 
 // An expiry as a number and as a date; 0 is none.
 #[derive(Clone, Copy)]
@@ -37,8 +37,11 @@ fn print_record(rt: &impl Print, r: &[u8], slot: usize, time: u64)
     } else {
         "expired"
     };
-    let _ = println!(rt;
-        "slot {slot}: {key} = {value}, version {version}, flags {flags}, {expiry}, {state}"
+    let _ = print_line(
+        rt,
+        format_args!(
+            "slot {slot}: {key} = {value}, version {version}, flags {flags}, {expiry}, {state}"
+        ),
     );
 }
 
@@ -76,9 +79,7 @@ pub fn list_records(
             used += 1;
         }
     }
-    println!(rt;
-        "{} of {} records in use",
-        Decimal(used as u64),
-        Decimal(n as u64)
-    )
+    let used = Decimal(used as u64);
+    let all = Decimal(n as u64);
+    print_line(rt, format_args!("{used} of {all} records in use"))
 }

@@ -1,15 +1,27 @@
 // Bytes between quotes, as redis-cli writes them: what does not print is escaped.
-ghost use Rattle.std.specs.Prelude.{◌≡◌, Some, [], ◌∷◌, ◌++◌};
+ghost use Rattle.std.specs.Prelude.{◌≡◌, ◌<◌, Some, [], ◌∷◌, ◌++◌, IsTrue};
 ghost use Rattle.std.specs.Fmt.{WritesOnOk};
-ghost use Rattle.terminal.specs.Escape.{prints, plain, escaped, escaped_all};
+ghost use Rattle.terminal.specs.Escape.{prints, hex_digit, plain, escaped, escaped_all};
 
+use crate::text::ascii;
 use std::fmt;
+use std::fmt::Display;
 
 // The ASCII bytes from the blank to the tilde stand for themselves.
 fn prints(b: u8) -> bool
-    ensures { result ≡ prints b }
+    ensures value { result ≡ prints b }
+    ensures ascii { IsTrue result → b < 128 }
 {
     32 <= b && b <= 126
+}
+
+// A hexadecimal digit.
+fn hex_digit(d: u8) -> u8
+    requires { d < 16 }
+    ensures digit { result ≡ hex_digit d }
+    ensures ascii { result < 128 }
+{
+    if d < 10 { b'0' + d } else { b'a' - 10 + d }
 }
 
 // Writes a byte that has no letter of its own.
@@ -17,10 +29,10 @@ fn write_plain<W: fmt::Write>(f: &mut fmt::Formatter<W>, b: u8) -> fmt::Result
     ensures { WritesOnOk W.write_str_gives f.old result (plain b) f.new }
 {
     if prints(b) {
-        write!(f, "{}", char::from(b))
-    } else {
-        write!(f, "\\x{b:02x}")
+        return f.write_str(ascii(&[b]));
     }
+    let number = [b'\\', b'x', hex_digit(b / 16), hex_digit(b % 16)];
+    f.write_str(ascii(&number))
 }
 
 // A byte as it stands between quotes.
@@ -57,7 +69,7 @@ impl fmt::Display for Quoted<'_> {
         let text = self.0;
         f.write_str("\"")?;
         for b in text {
-            write!(f, "{}", Escaped(*b))?;
+            Escaped(*b).fmt(f)?;
         }
         f.write_str("\"")
     }

@@ -5,6 +5,7 @@ mod digits;
 mod error;
 mod escape;
 mod numeral;
+mod page;
 mod printed;
 mod text;
 
@@ -12,5 +13,6 @@ pub use digits::decimal;
 pub use error::complain_error;
 pub use escape::Quoted;
 pub use numeral::Decimal;
+pub use page::print_line;
 pub use printed::print_reply;
 pub use text::{Complaints, complain, complain_text, print};

@@ -4,7 +4,8 @@ ghost use Rattle.std.specs.Fmt.{padded_integral};
 ghost use Rattle.model.specs.Number.{nat_text};
 
 use crate::digits::decimal;
-use std::{fmt, str};
+use crate::text::ascii;
+use std::fmt;
 
 // A number that is written by its decimal digits, which no division makes.
 #[derive(Clone, Copy)]
@@ -18,9 +19,7 @@ impl fmt::Display for Decimal {
     fn fmt<W: fmt::Write>(&self, f: &mut fmt::Formatter<W>) -> fmt::Result {
         let mut digits = [0u8; 20];
         let n = decimal(self.0, &mut digits);
-        let Ok(text) = str::from_utf8(&digits[..n]) else {
-            unreachable!()
-        };
+        let text = ascii(&digits[..n]);
         f.pad_integral(true, "", text)
     }
 }

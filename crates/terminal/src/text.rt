@@ -1,6 +1,18 @@
 // Bytes and text, written to standard output or standard error.
+ghost use Rattle.std.specs.Prelude.{◌≡◌};
+ghost use Rattle.std.specs.Str.{IsAscii};
+
 use std::fmt::{Display, Write};
-use std::{fmt, io};
+use std::{fmt, io, str};
+
+// ASCII bytes as text.
+// Kept: not `from_utf8`, whose test of what is known takes longer than writing a number does.
+pub(crate) fn ascii(bytes: &[u8]) -> &str
+    requires { IsAscii bytes.now }
+    ensures { result.now ≡ bytes.now }
+{
+    unsafe { str::from_utf8_unchecked(bytes) }
+}
 
 // Standard error, which takes bytes that need not be text.
 pub trait Complaints {
