@@ -1,6 +1,5 @@
 // Bytes between quotes, as redis-cli writes them: what does not print is escaped.
-ghost use Rattle.std.specs.Prelude.{◌≡◌, ◌<◌, Some, [], ◌∷◌, ◌++◌, IsTrue};
-ghost use Rattle.std.specs.Fmt.{WritesOnOk};
+ghost use Rattle.std.specs.Prelude.{◌≡◌, ◌<◌, ◌≤◌, Some, [], ◌∷◌, ◌++◌, take};
 ghost use Rattle.terminal.specs.Escape.{prints, hex_digit, plain, escaped, escaped_all};
 
 use crate::text::ascii;
@@ -9,8 +8,7 @@ use std::fmt::Display;
 
 // The ASCII bytes from the blank to the tilde stand for themselves.
 fn prints(b: u8) -> bool
-    ensures value { result ≡ prints b }
-    ensures ascii { IsTrue result → b < 128 }
+    ensures { result ≡ prints b }
 {
     32 <= b && b <= 126
 }
@@ -18,21 +16,39 @@ fn prints(b: u8) -> bool
 // A hexadecimal digit.
 fn hex_digit(d: u8) -> u8
     requires { d < 16 }
-    ensures digit { result ≡ hex_digit d }
-    ensures ascii { result < 128 }
+    ensures { result ≡ hex_digit d }
 {
     if d < 10 { b'0' + d } else { b'a' - 10 + d }
 }
 
-// Writes a byte that has no letter of its own.
-fn write_plain<W: fmt::Write>(f: &mut fmt::Formatter<W>, b: u8) -> fmt::Result
-    ensures { WritesOnOk W.write_str_gives f.old result (plain b) f.new }
+// The text of a byte that has no letter of its own: the first bytes of an array.
+fn plain(b: u8) -> ([u8; 4], usize)
+    ensures text { take result.1 result.0 ≡ plain b }
+    ensures within { result.1 ≤ 4 }
 {
     if prints(b) {
-        return f.write_str(ascii(&[b]));
+        return ([b, 0, 0, 0], 1);
     }
-    let number = [b'\\', b'x', hex_digit(b / 16), hex_digit(b % 16)];
-    f.write_str(ascii(&number))
+    ([b'\\', b'x', hex_digit(b / 16), hex_digit(b % 16)], 4)
+}
+
+// The text of a byte as it stands between quotes: the first bytes of an array.
+// Kept: an array with a count, and not a writer, since a writer could give up.
+#[tactic(auto, unfolding(crate::specs::Escape::escaped, crate::specs::Escape::letter))]
+fn escape(b: u8) -> ([u8; 4], usize)
+    ensures text { take result.1 result.0 ≡ escaped b }
+    ensures within { result.1 ≤ 4 }
+{
+    match b {
+        b'"' => ([b'\\', b'"', 0, 0], 2),
+        b'\\' => ([b'\\', b'\\', 0, 0], 2),
+        b'\n' => ([b'\\', b'n', 0, 0], 2),
+        b'\r' => ([b'\\', b'r', 0, 0], 2),
+        b'\t' => ([b'\\', b't', 0, 0], 2),
+        7 => ([b'\\', b'a', 0, 0], 2),
+        8 => ([b'\\', b'b', 0, 0], 2),
+        _ => plain(b),
+    }
 }
 
 // A byte as it stands between quotes.
@@ -42,19 +58,9 @@ struct Escaped(u8);
 impl fmt::Display for Escaped {
     ghost output = { λ e. Some (escaped e.0) };
 
-    #[tactic(auto, unfolding(crate::specs::Escape::escaped, crate::specs::Escape::letter))]
     fn fmt<W: fmt::Write>(&self, f: &mut fmt::Formatter<W>) -> fmt::Result {
-        let b = self.0;
-        match b {
-            b'"' => f.write_str("\\\""),
-            b'\\' => f.write_str("\\\\"),
-            b'\n' => f.write_str("\\n"),
-            b'\r' => f.write_str("\\r"),
-            b'\t' => f.write_str("\\t"),
-            7 => f.write_str("\\a"),
-            8 => f.write_str("\\b"),
-            _ => write_plain(f, b),
-        }
+        let (bytes, n) = escape(self.0);
+        f.write_str(ascii(&bytes[..n]))
     }
 }
 
