@@ -55,9 +55,9 @@ cmp-byte x y r = go (ltb x y) (ltb y x) refl refl
     go false true p q = rw (ne_eqb x y (λ e. omega (arith, ltb-true y x q)))
     go false false p q = rw (eq-eqb x y (omega (arith, ltb-false x y p, ltb-false y x q)))
 
-pub cmp-compared : (s t : List ℕ) → slice_cmp nat_cmp s t ≡ compared s t
+pub cmp_compared : (s t : List ℕ) → slice_cmp nat_cmp s t ≡ compared s t
 unfolding compared
-cmp-compared [] [] = refl
-cmp-compared [] (y ∷ t) = refl
-cmp-compared (x ∷ s) [] = refl
-cmp-compared (x ∷ s) (y ∷ t) = cmp-byte x y (slice_cmp nat_cmp s t) ∙ rw (cmp-compared s t) (sym (compared-byte x y s t))
+cmp_compared [] [] = refl
+cmp_compared [] (y ∷ t) = refl
+cmp_compared (x ∷ s) [] = refl
+cmp_compared (x ∷ s) (y ∷ t) = cmp-byte x y (slice_cmp nat_cmp s t) ∙ rw (cmp_compared s t) (sym (compared-byte x y s t))

@@ -1,4 +1,4 @@
-use Rattle.std.proofs.Common.{◌≡◌, ℕ, ◌∙◌, sym, ap, true, false, refl, replicate, Option, Some, None, List}
+use Rattle.std.proofs.Common.{◌≡◌, ℕ, ◌∙◌, sym, ap, subst, arith, true, false, refl, replicate, Option, Some, None, List}
 use Rattle.model.specs.Bytes.{same}
 use Rattle.model.specs.Optional.{is_some}
 use Rattle.model.specs.Table.{read_slot}
@@ -6,6 +6,7 @@ use Rattle.slice.proofs.Equal.{never}
 use Rattle.record.specs.Forms.{form_of}
 use Rattle.record.specs.Record.{is_used}
 use Rattle.record.proofs.Reading.{read-unused, read-used}
+use Rattle.index.specs.Index.{Enters}
 use Rattle.integrity.specs.Check.{UsedAfter}
 use Rattle.integrity.proofs.enter.Goals as goal
 use Rattle.integrity.proofs.enter.Goals.{After-is_zero, After-is_record}
@@ -30,6 +31,10 @@ used-after : (r : List ℕ) (o : Option ℕ) → is_used r ≡ true → UsedAfte
 used-after r None u = tt
 used-after r (Some first) u = u
 
+-- an entry told by another value
+entered-as : {i : ℕ} {k h n h' n' : List ℕ} {x y : ℕ} → Enters i k h n x h' n' → x ≡ y → Enters i k h n y h' n'
+entered-as {i} {k} {h} {n} {h'} {n'} e q = subst (λ (z : ℕ). Enters i k h n z h' n') q e
+
 pub returns-then-is_zero : goal.returns-then-is_zero
 returns-then-is_zero c =
     let z = (goal.at.returns-then-is_zero c).After-is_zero in
@@ -44,4 +49,4 @@ returns-then-not-is_record c = (sym (record-told (goal.at.returns-then-not-is_re
 pub returns : goal.returns
 returns c =
     let e = (goal.at.returns c).After-is_record in
-    (sym (record-told e) ∙ c.if-not-is_record.false, used-after c.args.r.now _ (used e), record { used = λ _. c.enter.ensures.entered; unused = λ n. never _ (used e) n })
+    (sym (record-told e) ∙ c.if-not-is_record.false, used-after c.args.r.now _ (used e), record { used = λ _. entered-as c.enter.ensures.entered (grind (arith, c.enter.ensures.some)); unused = λ n. never _ (used e) n })
