@@ -1,5 +1,5 @@
 -- `reads` meets its contract: each slot is tested as a table of its own.
-use Rattle.std.proofs.Common.{◌≡◌, ℕ, ◌+◌, ◌-◌, ◌<◌, Bool, List, true, sym, ap, subst, ◌∙◌, arith}
+use Rattle.std.proofs.Common.{◌≡◌, ℕ, ◌+◌, ◌-◌, ◌<◌, Bool, List, sym, ap, subst, ◌∙◌, arith}
 use Rattle.model.specs.Optional.{is_some}
 use Rattle.model.specs.Table.{form128, record_at, read_slot}
 use Rattle.index.specs.Index.{count_of}

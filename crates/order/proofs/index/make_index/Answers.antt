@@ -1,4 +1,4 @@
-use Rattle.std.proofs.Common.{◌≡◌, ℕ, length, replicate, ap, sym, ◌∙◌, arith}
+use Rattle.std.proofs.Common.{ℕ, length, replicate, ap, sym, ◌∙◌, arith}
 use lib.ListN.{length-replicate}
 use Rattle.record.specs.Forms.{form_of}
 use Rattle.table.proofs.Records.{count-is}

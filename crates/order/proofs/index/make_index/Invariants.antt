@@ -1,5 +1,5 @@
 -- The loop keeps that the list holds the index of the slots from `slot` on.
-use Rattle.std.proofs.Common.{◌≡◌, length}
+use Rattle.std.proofs.Common.{length}
 use Rattle.record.specs.Forms.{form_of}
 use Rattle.order.specs.Places.{Lists}
 use Rattle.order.proofs.index.make_index.Given as goal
