@@ -16,7 +16,7 @@ use terminal::{Complaints, Decimal, complain, complain_text};
 // The most records.
 const MOST: usize = 256;
 
-// The rule that a slot breaks: the first of these.
+// The rule that a slot breaks: the first of these. Its text ends the line, so that both are written at once.
 #[derive(Clone, Copy)]
 pub enum Fault {
     Empty,
@@ -33,15 +33,15 @@ pub enum Fault {
 impl fmt::Display for Fault {
     fn fmt<W: fmt::Write>(&self, f: &mut fmt::Formatter<W>) -> fmt::Result {
         f.write_str(match self {
-            Fault::Empty => "an empty record has a byte that is not 0",
-            Fault::Use => "byte 0 is neither 0 nor 1",
-            Fault::KeyLength => "the key's length is not 1 to 24",
-            Fault::ValueLength => "the value's length is above 64",
-            Fault::Mark => "byte 3 is not 0",
-            Fault::Version => "the version is 2^63 or more",
-            Fault::Expiry => "the expiry is above 2^62",
-            Fault::AfterKey => "a byte after the key is not 0",
-            Fault::AfterValue => "a byte after the value is not 0",
+            Fault::Empty => "an empty record has a byte that is not 0\n",
+            Fault::Use => "byte 0 is neither 0 nor 1\n",
+            Fault::KeyLength => "the key's length is not 1 to 24\n",
+            Fault::ValueLength => "the value's length is above 64\n",
+            Fault::Mark => "byte 3 is not 0\n",
+            Fault::Version => "the version is 2^63 or more\n",
+            Fault::Expiry => "the expiry is above 2^62\n",
+            Fault::AfterKey => "a byte after the key is not 0\n",
+            Fault::AfterValue => "a byte after the value is not 0\n",
         })
     }
 }
@@ -146,7 +146,7 @@ impl Subject<'_> {
     {
         if let Some(fault) = fault_of(r) {
             self.tell_slot(rt, slot);
-            complain_text(rt, format_args!("{fault}\n"));
+            complain_text(rt, fault);
             return;
         }
         if r[USE_AT] != USED {

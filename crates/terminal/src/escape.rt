@@ -1,10 +1,15 @@
 // Bytes between quotes, as redis-cli writes them: what does not print is escaped.
-ghost use Rattle.std.specs.Prelude.{◌≡◌, ◌<◌, ◌≤◌, Some, [], ◌∷◌, ◌++◌, take};
+ghost use Rattle.std.specs.Prelude.{◌≡◌, ◌+◌, ◌*◌, ◌<◌, ◌≤◌, Some, [], ◌∷◌, ◌++◌, length, take};
+ghost use Rattle.std.specs.Fmt.{WritesOnOk};
+ghost use Rattle.slice.specs.Wrote.{Wrote};
 ghost use Rattle.terminal.specs.Escape.{prints, hex_digit, plain, escaped, escaped_all};
 
-use crate::text::ascii;
-use std::fmt;
-use std::fmt::Display;
+use std::{fmt, str};
+
+// The most bytes that are escaped at once, and the room that they take.
+const PIECE: usize = 64;
+
+const ROOM: usize = 256;
 
 // The ASCII bytes from the blank to the tilde stand for themselves.
 fn prints(b: u8) -> bool
@@ -33,9 +38,9 @@ fn plain(b: u8) -> ([u8; 4], usize)
 }
 
 // The text of a byte as it stands between quotes: the first bytes of an array.
-// Kept: an array with a count, and not a writer, since a writer could give up.
+// Kept: an array with a count, since a text on the heap could fail.
 #[tactic(auto, unfolding(crate::specs::Escape::escaped, crate::specs::Escape::letter))]
-fn escape(b: u8) -> ([u8; 4], usize)
+fn escaped(b: u8) -> ([u8; 4], usize)
     ensures text { take result.1 result.0 ≡ escaped b }
     ensures within { result.1 ≤ 4 }
 {
@@ -51,17 +56,40 @@ fn escape(b: u8) -> ([u8; 4], usize)
     }
 }
 
-// A byte as it stands between quotes.
-#[derive(Clone, Copy)]
-struct Escaped(u8);
+// Writes a byte as it stands between quotes, and gives back the place after it.
+fn put_escaped(out: &mut [u8], at: usize, b: u8) -> usize
+    requires { at + 4 ≤ length out.old }
+    ensures wrote { Wrote at (escaped b) out.old out.new result }
+    ensures few { result ≤ at + 4 }
+{
+    let (bytes, n) = escaped(b);
+    slice::copy(out, at, &bytes[..n]);
+    at + n
+}
 
-impl fmt::Display for Escaped {
-    ghost output = { λ e. Some (escaped e.0) };
-
-    fn fmt<W: fmt::Write>(&self, f: &mut fmt::Formatter<W>) -> fmt::Result {
-        let (bytes, n) = escape(self.0);
-        f.write_str(ascii(&bytes[..n]))
+// Writes a text as it stands between quotes at the start of a buffer, and gives back its length.
+pub fn escape(text: &[u8], out: &mut [u8]) -> usize
+    requires { 4 * length text.now ≤ length out.old }
+    ensures { Wrote 0 (escaped_all text.now) out.old out.new result }
+{
+    let mut at = 0;
+    for b in text {
+        at = put_escaped(out, at, *b);
     }
+    at
+}
+
+// Writes a piece of a text as it stands between quotes.
+fn write_piece<W: fmt::Write>(f: &mut fmt::Formatter<W>, piece: &[u8]) -> fmt::Result
+    requires { length piece.now ≤ 64 }
+    ensures { WritesOnOk W.write_str_gives f.old result (escaped_all piece.now) f.new }
+{
+    let mut room = [0u8; ROOM];
+    let n = escape(piece, &mut room);
+    let Ok(text) = str::from_utf8(&room[..n]) else {
+        unreachable!()
+    };
+    f.write_str(text)
 }
 
 // Bytes in quotes.
@@ -74,8 +102,11 @@ impl fmt::Display for Quoted<'_> {
     fn fmt<W: fmt::Write>(&self, f: &mut fmt::Formatter<W>) -> fmt::Result {
         let text = self.0;
         f.write_str("\"")?;
-        for b in text {
-            Escaped(*b).fmt(f)?;
+        let mut at = 0;
+        while at < text.len() {
+            let end = text.len().min(at + PIECE);
+            write_piece(f, &text[at..end])?;
+            at = end;
         }
         f.write_str("\"")
     }

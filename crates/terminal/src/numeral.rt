@@ -4,8 +4,7 @@ ghost use Rattle.std.specs.Fmt.{padded_integral};
 ghost use Rattle.model.specs.Number.{nat_text};
 
 use crate::digits::decimal;
-use crate::text::ascii;
-use std::fmt;
+use std::{fmt, str};
 
 // A number that is written by its decimal digits, which no division makes.
 #[derive(Clone, Copy)]
@@ -19,7 +18,9 @@ impl fmt::Display for Decimal {
     fn fmt<W: fmt::Write>(&self, f: &mut fmt::Formatter<W>) -> fmt::Result {
         let mut digits = [0u8; 20];
         let n = decimal(self.0, &mut digits);
-        let text = ascii(&digits[..n]);
+        let Ok(text) = str::from_utf8(&digits[..n]) else {
+            unreachable!()
+        };
         f.pad_integral(true, "", text)
     }
 }

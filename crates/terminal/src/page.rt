@@ -1,5 +1,5 @@
 // Text that is put together in a buffer and then written at once, so that what several programs write to one output stays whole.
-ghost use Rattle.std.specs.Prelude.{◌≡◌, ◌+◌, ◌≤◌, ◌<◌, ◌++◌, length, take, IfSome, OnOk};
+ghost use Rattle.std.specs.Prelude.{◌≡◌, ◌≤◌, ◌<◌, ◌++◌, length, take, IfSome, OnOk};
 ghost use Rattle.std.specs.Fmt.{AppendsText, with_newline};
 
 use std::fmt::{Display, Write};

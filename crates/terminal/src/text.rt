@@ -1,18 +1,6 @@
 // Bytes and text, written to standard output or standard error.
-ghost use Rattle.std.specs.Prelude.{◌≡◌};
-ghost use Rattle.std.specs.Str.{IsAscii};
-
 use std::fmt::{Display, Write};
-use std::{fmt, io, str};
-
-// ASCII bytes as text.
-// Kept: not `from_utf8`, whose test of what is known takes longer than writing a number does.
-pub(crate) fn ascii(bytes: &[u8]) -> &str
-    requires { IsAscii bytes.now }
-    ensures { result.now ≡ bytes.now }
-{
-    unsafe { str::from_utf8_unchecked(bytes) }
-}
+use std::{fmt, io};
 
 // Standard error, which takes bytes that need not be text.
 pub trait Complaints {
