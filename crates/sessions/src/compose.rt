@@ -33,6 +33,6 @@ fn put_line(out: &mut impl Write, line: &[u8]) -> io::Result<()> {
 pub fn encode<'a>(line: &[u8], buffer: &'a mut [u8; ROOM]) -> &'a [u8] {
     let mut rest = &mut buffer[..];
     let _ = put_line(&mut rest, line);
-    let left = rest.len();
-    buffer.get(..ROOM - left).unwrap_or(&[])
+    let n = ROOM.saturating_sub(rest.len());
+    buffer.get(..n).unwrap_or(&[])
 }
