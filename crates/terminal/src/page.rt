@@ -8,6 +8,9 @@ use std::{fmt, io};
 // The room for a line and its end.
 const LINE: usize = 1024;
 
+// The room for a text that is written by pages.
+const PAGE: usize = 1024;
+
 // A text of at most N bytes that is put together from parts. A part that has no room is left out whole, and that is an error.
 // Kept: a buffer with a length, since a text on the heap could fail.
 #[derive(Drop)]
@@ -65,5 +68,59 @@ pub fn print_line<D: Display + Drop>(rt: &impl Print, text: D) -> io::Result<()>
     match add_line(&mut page, text) {
         Ok(()) => rt.write_all(page.text()),
         Err(fmt::Error) => Err(io::Error::other("the text is too long")),
+    }
+}
+
+// An output to which text is written by pages: at once where it has room on one. A part that has no room left begins the next page, or is written by
+// itself where it is longer than a page.
+// Kept: a buffer with a length, since a text on the heap could fail.
+#[derive(Drop)]
+pub(crate) struct Paged<'a, R> {
+    rt: &'a R,
+    bytes: [u8; PAGE],
+    len: usize,
+    ghost fits: { len ≤ 1024 },
+}
+
+impl<'a, R: Print> Paged<'a, R> {
+    pub(crate) fn new(rt: &'a R) -> Paged<'a, R> {
+        Paged {
+            rt,
+            bytes: [0; PAGE],
+            len: 0,
+        }
+    }
+
+    // Writes what is on the page, and empties it.
+    pub(crate) fn write_page(&mut self) -> io::Result<()>
+        ensures { self.new.len ≡ 0 }
+    {
+        let n = self.len;
+        self.len = 0;
+        self.rt.write_all(&self.bytes[..n])
+    }
+}
+
+impl<R: Print> io::Write for Paged<'_, R> {
+    fn write(&mut self, part: &[u8]) -> io::Result<usize> {
+        self.write_all(part)?;
+        Ok(part.len())
+    }
+
+    fn flush(&mut self) -> io::Result<()> {
+        self.write_page()
+    }
+
+    fn write_all(&mut self, part: &[u8]) -> io::Result<()> {
+        if PAGE - self.len < part.len() {
+            self.write_page()?;
+            if PAGE < part.len() {
+                return self.rt.write_all(part);
+            }
+        }
+        let end = self.len + part.len();
+        self.bytes[self.len..end].copy_from_slice(part);
+        self.len = end;
+        Ok(())
     }
 }

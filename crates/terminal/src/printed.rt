@@ -1,12 +1,11 @@
-// A RESP2 reply, printed as redis-cli prints it, in one write.
+// A RESP2 reply, printed as redis-cli prints it, in one write where its text has room on a page, as that of each reply of the store has.
+ghost use Rattle.std.specs.Prelude.{◌≡◌, length, IsOk};
+
 use crate::escape::Quoted;
 use crate::numeral::Decimal;
+use crate::page::Paged;
 use std::io;
-use std::io::{Cursor, Write};
-
-// The room for a text, which is more than a reply of the store takes.
-// Kept: a buffer, since a text on the heap could fail where a table has changed already.
-const PAGE: usize = 1024;
+use std::io::Write;
 
 // An item of a reply that is no array.
 #[derive(Clone, Copy)]
@@ -117,18 +116,83 @@ fn add_reply<'a>(page: &mut impl Write, reply: &'a [u8]) -> io::Result<Option<&'
     Ok(Some(rest))
 }
 
-// Prints a reply as redis-cli does, in one write, and says so where it is no RESP2 or bytes are left after it. A reply of no bytes prints nothing.
-pub fn print_reply(rt: &impl Print, reply: &[u8]) -> io::Result<()> {
+// Prints a reply as redis-cli does, in one write where its text has at most 1,024 bytes, and says so where it is no RESP2 or bytes are left after it. A
+// reply of no bytes prints nothing.
+pub fn print_reply(rt: &impl Print, reply: &[u8]) -> io::Result<()>
+    ensures { length reply.now ≡ 0 → IsOk result }
+{
     if reply.is_empty() {
         return Ok(());
     }
-    let mut page = Cursor::new([0u8; PAGE]);
+    let mut page = Paged::new(rt);
     match add_reply(&mut page, reply)? {
         Some([]) => {}
         _ => page.write_all(b"malformed reply\n")?,
     }
-    match page.get_ref().get(..page.position() as usize) {
-        Some(text) => rt.write_all(text),
-        None => Err(io::Error::other("the text is too long")),
+    page.write_page()
+}
+
+#[cfg(test)]
+mod tests {
+    use super::*;
+    use std::cell::{Cell, RefCell};
+    use std::fmt::Display;
+    use std::test::Fail;
+
+    // An output that keeps what is written, and counts the writes.
+    #[derive(Drop)]
+    struct Kept {
+        text: RefCell<Vec<u8>>,
+        writes: Cell<u64>,
+    }
+
+    impl Print for Kept {
+        fn print<D: Display + Drop>(&self, _value: D) -> io::Result<()> {
+            Err(io::Error::other("not used"))
+        }
+
+        fn println<D: Display + Drop>(&self, _value: D) -> io::Result<()> {
+            Err(io::Error::other("not used"))
+        }
+
+        fn write_all(&self, bytes: &[u8]) -> io::Result<()> {
+            self.writes.set(self.writes.get().wrapping_add(1));
+            match self.text.try_borrow_mut() {
+                Ok(mut text) => text.write_all(bytes),
+                Err(_) => Err(io::Error::other("in use")),
+            }
+        }
+    }
+
+    // Letters are printed whole, a bulk string of up to 1,021 in one write. It is printed by pieces, an error by a part that is longer than a page.
+    #[test]
+    fn long_reply_is_printed(rt: HostRuntime) -> Result<(), Fail> {
+        for (head, n, before, after, once) in [
+            ("$1000\r\n", 1000, "\"", "\"\n", true),
+            ("$1021\r\n", 1021, "\"", "\"\n", true),
+            ("$1022\r\n", 1022, "\"", "\"\n", false),
+            ("$4000\r\n", 4000, "\"", "\"\n", false),
+            ("-", 2000, "(error) ", "\n", false),
+        ] {
+            let mut reply = Vec::new(rt.alloc());
+            reply.extend_from_slice(head.as_bytes())?;
+            let mut want = Vec::new(rt.alloc());
+            want.extend_from_slice(before.as_bytes())?;
+            for _ in 0..n {
+                reply.push(b'a')?;
+                want.push(b'a')?;
+            }
+            reply.extend_from_slice(b"\r\n")?;
+            want.extend_from_slice(after.as_bytes())?;
+            let kept = Kept {
+                text: RefCell::new(Vec::new(rt.alloc())),
+                writes: Cell::new(0),
+            };
+            print_reply(&kept, &reply)?;
+            let text = kept.text.try_borrow()?;
+            assert_eq!(rt; text.as_slice(), want.as_slice(), "at {n}");
+            assert_eq!(rt; kept.writes.get() == 1, once, "at {n}");
+        }
+        Ok(())
     }
 }
